@@ -2,6 +2,7 @@ pub mod Test
 pub mod Least
 pub mod Sum
 pub mod Table
+pub mod Name
 pub mod Word
 pub mod Bits
 pub mod Part
