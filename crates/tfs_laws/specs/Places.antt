@@ -1,0 +1,123 @@
+-- On a sound volume the places of all files' bytes are apart, and a write to a file keeps the view.
+use mathlib.Core.Path.{_≡_, refl, sym, ap, ap₂, _∙_, subst}
+use mathlib.Core.Logic.{_≢_}
+use mathlib.Core.Bool.{Bool, true, false, not, cond, _&&_}
+use Prim.Native.Nat.{ℕ, zero, suc, _+_, _-_, _*_, _/_, _%_, _≤_, _<_, min}
+use mathlib.Core.List.{List, [], _∷_, _++_}
+use native.Mathlib.Omega.{arith}
+use lib.ListN.{length, getD}
+use lib.Dec.{T, leb, ltb, leb→le, ltb→lt, T-not}
+use Rattle.lists.specs.Test.{by-test, cond-yes, cond-no, and-l, and-r}
+use Rattle.lists.specs.Table.{table, table-cong}
+use Rattle.lists.specs.Part.{part, part-ext}
+use Rattle.tfs_rules.specs.Layout.{slots, need, blocks, block, slot, slotInode, inRange}
+use Rattle.tfs_rules.specs.View.{View, view, viewN, inodeAt, free, inode, size, number, place}
+use Rattle.tfs_rules.specs.Consistent.{File, Owner, inodeOf, contentOf, Owns, Inside, Sound}
+use Rattle.tfs_laws.specs.Sizes.{split-block, split-offset, rejoin, in-need, in-block, in-image}
+use Rattle.tfs_laws.specs.Views.{view-n, view-dir, free-inode, has}
+use Rattle.tfs_laws.specs.Writes.{Put, Files, Laid, effect, step, in-file, length-step, step-other}
+
+abbrev pub filesOf : ℕ → View → Files
+filesOf B v = record { size = λ s. size v s; place = λ s p. place B v s p }
+
+-- two owners are one
+pub owner-inode : (s t k : ℕ) → inodeOf s ≡ contentOf t k → ⊥
+owner-inode s t k e = let z : _≡_ {A = ℕ} 0 1 = cc in omega arith
+
+pub owner-content : (s t j k : ℕ) → contentOf s j ≡ contentOf t k → (s ≡ t) × (j ≡ k)
+owner-content s t j k e = (cc, cc)
+
+pub owner-slot : (s t : ℕ) → inodeOf s ≡ inodeOf t → s ≡ t
+owner-slot s t e = cc
+
+pub blocks-eq : (B : ℕ) (a b : List ℕ) → length a ≡ length b → blocks B a ≡ blocks B b
+unfolding blocks
+blocks-eq B a b e = ap (λ (l : ℕ). min (8 * B) (l / B)) e
+
+inside-of : (n i : ℕ) → T (inRange n i) → (3 ≤ i) × (i < n)
+inside-of n i t = (leb→le 3 i (and-l (leb 3 i) _ t), ltb→lt i n (and-r (leb 3 i) _ t))
+
+-- two images with the same blocks 0 to 2 and inodes have the same view
+pub view-eq : (B : ℕ) (a b : List ℕ) → length a ≡ length b → ((i : ℕ) → i < 3 → block B a i ≡ block B b i) → ((s : ℕ) → s < slots B → Inside (view B b) (inode (view B b) s) → block B a (inode (view B b) s) ≡ block B b (inode (view B b) s)) → view B a ≡ view B b
+unfolding view viewN inode inodeAt
+view-eq B a b len low inodes =
+    λ i. record { n = n i; head = low 0 (omega arith) i; map = low 1 (omega arith) i; dir = low 2 (omega arith) i; inodes = ino i }
+  where
+    n : blocks B a ≡ blocks B b
+    n = blocks-eq B a b len
+
+    at : (s : ℕ) → s < slots B → inodeAt B (blocks B a) a s ≡ inodeAt B (blocks B b) b s
+    at s h =
+        let i : ℕ = slotInode (slot (block B b 2) s) in
+        ap₂ (λ (m : ℕ) (d : List ℕ). cond (inRange m (slotInode (slot d s))) (block B a (slotInode (slot d s))) []) n (low 2 (omega arith))
+        ∙ by-test (inRange (blocks B b) i)
+        (λ t.
+        let r : (3 ≤ i) × (i < blocks B b) = inside-of (blocks B b) i t in
+        ap (λ (x : List ℕ). cond (inRange (blocks B b) i) x []) (inodes s h (record { low = r .0; high = r .1 })))
+        (λ t. cond-no {X = List ℕ} (inRange (blocks B b) i) (block B a i) [] t ∙ sym (cond-no {X = List ℕ} (inRange (blocks B b) i) (block B b i) [] t))
+
+    ino : table (inodeAt B (blocks B a) a) 0 (slots B) ≡ table (inodeAt B (blocks B b) b) 0 (slots B)
+    ino = table-cong (inodeAt B (blocks B a) a) (inodeAt B (blocks B b) b) 0 (slots B) (λ s h l. at s (omega arith))
+
+-- a slot whose inode number is in range holds a file
+pub file-at : (B : ℕ) (v : View) (s : ℕ) → s < slots B → Inside v (inode v s) → File B v s
+file-at B v s h r =
+    record { slot = h; taken = by-test (free v s) (λ t. absurd (let z : inode v s ≡ 0 = free-inode v s t in omega (arith, r .low))) (λ t. t) }
+
+module _ (B : ℕ) (pos : 0 < B) (img : List ℕ) (ok : Sound B (view B img)) where
+  abbrev v : View
+  v = view B img
+
+  -- the block of a position
+  pub position : (s p : ℕ) → p < size v s → Inside v (number v s (p / B))
+  position s p l = ok .inside s (p / B) (has B img s p l) (in-need B pos p (size v s) l)
+
+  pub owns-position : (s p : ℕ) → p < size v s → Owns B v (contentOf s (p / B)) (number v s (p / B))
+  owns-position s p l = (has B img s p l, in-need B pos p (size v s) l, refl)
+
+  apart : (s p t q : ℕ) → p < size v s → q < size v t → place B v s p ≡ place B v t q → (s ≡ t) × (p ≡ q)
+  unfolding place
+  apart s p t q lp lq e =
+      let a : number v s (p / B) ≡ number v t (q / B) = split-block B pos (number v s (p / B)) (number v t (q / B)) (p % B) (q % B) (in-block B pos p) (in-block B pos q) e in
+      let r : p % B ≡ q % B = split-offset B pos (number v s (p / B)) (number v t (q / B)) (p % B) (q % B) (in-block B pos p) (in-block B pos q) e in
+      let o : contentOf s (p / B) ≡ contentOf t (q / B) =
+      ok .once (number v s (p / B)) (contentOf s (p / B)) (contentOf t (q / B)) (owns-position s p lp) (has B img t q lq, in-need B pos q (size v t) lq, sym a)
+      in
+      let d : (s ≡ t) × (p / B ≡ q / B) = owner-content s t (p / B) (q / B) o in
+      (d .0, rejoin B pos p q (d .1) r)
+
+  pub laid : Laid (filesOf B v) (length img)
+  unfolding place
+  laid =
+      record {
+        inside = λ s p l.
+            (let c : Inside v (number v s (p / B)) = position s p l in
+            omega (arith, in-image B (number v s (p / B)) img (subst (λ (n : ℕ). number v s (p / B) < n) (view-n B img) (c .high)), in-block B pos p));
+        apart = apart;
+      }
+
+  module _ (w : Put) where
+    abbrev new : List ℕ
+    new = step (filesOf B v) img w
+
+    -- a block that holds no content is as it was
+    pub kept : (i : ℕ) → ((s k : ℕ) → File B v s → k < need B (size v s) → i ≢ number v s k) → block B new i ≡ block B img i
+    unfolding block place
+    kept i far =
+        part-ext (i * B) B new img (length-step (filesOf B v) img w)
+        (λ r l. step-other (filesOf B v) img w (i * B + r)
+        (λ p h e.
+        far (w .slot) (p / B) (has B img (w .slot) p h) (in-need B pos p (size v (w .slot)) h)
+        (split-block B pos i (number v (w .slot) (p / B)) r (p % B) l (in-block B pos p) e)))
+
+    low-kept : (i : ℕ) → i < 3 → block B new i ≡ block B img i
+    low-kept i l = kept i (λ s k f h e. let c : Inside v (number v s k) = ok .inside s k f h in omega (arith, c .low))
+
+    inode-kept : (s : ℕ) → s < slots B → Inside v (inode v s) → block B new (inode v s) ≡ block B img (inode v s)
+    inode-kept s h r =
+        kept (inode v s)
+        (λ t k f l e. owner-inode s t k (ok .once (inode v s) (inodeOf s) (contentOf t k) (file-at B v s h r, refl) (f, l, sym e)))
+
+    -- a write keeps everything but content
+    pub view-kept : view B new ≡ view B img
+    view-kept = view-eq B new img (length-step (filesOf B v) img w) low-kept inode-kept

@@ -1,0 +1,92 @@
+-- What a view takes from its image.
+use mathlib.Core.Path.{_≡_, refl, sym, ap, ap₂, _∙_, subst}
+use mathlib.Core.Logic.{_≢_, _⊎_, inl, inr, ⊎-elim}
+use mathlib.Core.Bool.{Bool, true, false, not, cond, _&&_}
+use Prim.Native.Nat.{ℕ, zero, suc, _+_, _-_, _*_, _/_, _%_, _≤_, _<_, min}
+use mathlib.Core.List.{List, [], _∷_, _++_}
+use native.Mathlib.Omega.{arith}
+use native.Mathlib.Nat.{zero-add}
+use native.Mathlib.Decide.{decLt}
+use lib.ListN.{length, getD, List·getD-eq-default}
+use lib.Dec.{T, leb, ltb, eqb, leb→le, ltb→lt, le→leb, lt→ltb, eqb→eq, T-not}
+use Rattle.lists.specs.Test.{allZero, by-test, cond-yes, cond-no, and-of, and-l, and-r}
+use Rattle.lists.specs.Table.{table, getD-table, getD-table-out, table-cong}
+use Rattle.lists.specs.Part.{part, length-part, part-ext}
+use Rattle.lists.specs.Word.{word}
+use Rattle.tfs_rules.specs.Layout.{BlockSize, slots, blocks, block, slot, slotInode, slotFree, slotUsed, inRange, inodeSize, inodeNumber}
+use Rattle.tfs_rules.specs.View.{View, view, viewN, inodeAt, free, used, inode, size, number}
+use Rattle.tfs_rules.specs.Consistent.{File, Inside, Sound, Consistent}
+use Rattle.tfs_laws.specs.Sizes.{in-image}
+
+pub zero-bytes : (l : List ℕ) → T (allZero l) → (i : ℕ) → getD l i 0 ≡ 0
+zero-bytes [] t i = refl
+zero-bytes (x ∷ xs) t zero = eqb→eq x 0 (and-l (eqb x 0) (allZero xs) t)
+zero-bytes (x ∷ xs) t (suc i) = zero-bytes xs (and-r (eqb x 0) (allZero xs) t) i
+
+zero-word : (l : List ℕ) (p : ℕ) → T (allZero l) → word l p ≡ 0
+unfolding word
+zero-word l p t =
+    omega (arith, zero-bytes l t p, zero-bytes l t (p + 1), zero-bytes l t (p + 2), zero-bytes l t (p + 3))
+
+-- a free slot has inode number 0
+pub free-inode : (v : View) (s : ℕ) → T (free v s) → inode v s ≡ 0
+unfolding free inode slotFree slotInode
+free-inode v s t = zero-word (slot (v .dir) s) 0 t
+
+pub used-inside : (v : View) (s : ℕ) → T (used v s) → Inside v (inode v s)
+unfolding used inode slotUsed
+used-inside v s t =
+    let i : ℕ = slotInode (slot (v .dir) s) in
+    let r : T (leb 3 i && ltb i (v .n)) = and-l (inRange (v .n) i) _ t in
+    record { low = leb→le 3 i (and-l (leb 3 i) _ r); high = ltb→lt i (v .n) (and-r (leb 3 i) _ r) }
+
+module _ (B : ℕ) (img : List ℕ) where
+  pub view-n : view B img .n ≡ blocks B img
+  unfolding view viewN
+  view-n = refl
+
+  pub view-head : view B img .head ≡ block B img 0
+  unfolding view viewN
+  view-head = refl
+
+  pub view-map : view B img .map ≡ block B img 1
+  unfolding view viewN
+  view-map = refl
+
+  pub view-dir : view B img .dir ≡ block B img 2
+  unfolding view viewN
+  view-dir = refl
+
+  pub inodes-at : (s : ℕ) → s < slots B → getD (view B img .inodes) s [] ≡ inodeAt B (blocks B img) img s
+  unfolding view viewN
+  inodes-at s h = getD-table (inodeAt B (blocks B img) img) 0 (slots B) s [] h ∙ ap (inodeAt B (blocks B img) img) (zero-add s)
+
+  pub inodes-out : (s : ℕ) → slots B ≤ s → getD (view B img .inodes) s [] ≡ []
+  unfolding view viewN
+  inodes-out s h = getD-table-out (inodeAt B (blocks B img) img) 0 (slots B) s [] h
+
+  -- the inode of a slot whose inode number is in range
+  pub inode-block : (s : ℕ) → s < slots B → Inside (view B img) (inode (view B img) s) → getD (view B img .inodes) s [] ≡ block B img (inode (view B img) s)
+  unfolding view viewN inode inodeAt
+  inode-block s h r =
+      let i : ℕ = slotInode (slot (block B img 2) s) in
+      inodes-at s h
+      ∙ cond-yes (inRange (blocks B img) i) (block B img i) [] (and-of (leb 3 i) (ltb i (blocks B img)) (le→leb 3 i (r .low)) (lt→ltb i (blocks B img) (r .high)))
+
+  -- a free slot has no inode
+  pub inode-none : (s : ℕ) → s < slots B → T (free (view B img) s) → getD (view B img .inodes) s [] ≡ []
+  unfolding inodeAt view viewN inode
+  inode-none s h t =
+      inodes-at s h ∙ ap (λ (i : ℕ). cond (inRange (blocks B img) i) (block B img i) []) (free-inode (view B img) s t)
+
+  -- only a file has a size
+  pub has : (s p : ℕ) → p < size (view B img) s → File B (view B img) s
+  unfolding size inodeSize word
+  has s p l =
+      elim (decLt s (slots B)) [
+        | yes k ↦ record { slot = k; taken = by-test (free (view B img) s) (λ t. absurd (none (inode-none s k t))) (λ t. t) }
+        | no k ↦ absurd (none (inodes-out s (omega arith)))
+      ]
+    where
+      none : getD (view B img .inodes) s [] ≡ [] → ⊥
+      none e = let z : p < inodeSize [] = subst (λ (x : List ℕ). p < inodeSize x) e l in omega arith

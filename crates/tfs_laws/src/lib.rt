@@ -1,0 +1,1 @@
+// What the TFS requests do, as laws over their definitions. No code: see specs/.
