@@ -1,4 +1,6 @@
 pub mod Sizes
 pub mod Views
+pub mod Content
 pub mod Writes
 pub mod Places
+pub mod WriteLists
