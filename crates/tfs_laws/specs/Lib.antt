@@ -4,3 +4,5 @@ pub mod Content
 pub mod Writes
 pub mod Places
 pub mod WriteLists
+pub mod Stores
+pub mod MapBits
