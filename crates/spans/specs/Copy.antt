@@ -13,5 +13,6 @@ copy-more s d i h k =
     rw (add-one, take-suc s i 0 h, drop-cons d i 0 k, append-snoc)
     (set-at (take i s) (getD d i 0) (drop (suc i) d) (getD s i 0) i (length-take-le i s (omega arith)))
 
+-- all bytes of s in place of those of d
 pub copy-end : (s d : List ℕ) → length d ≡ length s → take (length d) s ++ drop (length d) d ≡ s
 copy-end s d e = rw (take-all (length d) s (omega arith), drop-length, append-nil)

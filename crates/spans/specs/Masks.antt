@@ -7,6 +7,7 @@ use lib.Bits.{bitOr, bitAnd, or-step, or-zero-r, and-step, and-mask}
 use lib.Pow.{pow-pos, pow-lt}
 use Rattle.lists.specs.Bits.{withBit}
 
+-- the mask sets bit k
 pub or-with : (n k : ℕ) → bitOr n (2 ^ k) ≡ withBit n k 1
 unfolding withBit
 or-with n zero = or-step n 1 ∙ omega (arith, or-zero-r (n / 2))
@@ -14,7 +15,7 @@ or-with n (suc k) =
     let half : 2 ^ suc k / 2 ≡ 2 ^ k = omega (arith, pow-succ' 2 k) in
     or-step n (2 ^ suc k) ∙ rw (half, or-with (n / 2) k) (omega (arith, pow-succ' 2 k))
 
--- for numbers of m bits
+-- the mask clears bit k of a number of m bits
 pub and-with : (n k m : ℕ) → k < m → n < 2 ^ m → bitAnd n (2 ^ m - 1 - 2 ^ k) ≡ withBit n k 0
 unfolding withBit
 and-with n k zero l b = absurd (omega arith)

@@ -10,6 +10,7 @@ unfoldable pub sumWords : List ℕ → ℕ → ℕ
 sumWords l zero = 0
 sumWords l (suc n) = (sumWords l n + word l (n * 4)) % 4294967296
 
+-- one more word
 pub sum-more : (l : List ℕ) (n : ℕ) → sumWords l (n + 1) ≡ (sumWords l n + word l (n * 4)) % 4294967296
 unfolding sumWords
 sum-more l n = rw add-one

@@ -9,7 +9,8 @@ use Rattle.spans.proofs.bits.with_one.Statement.{statement}
 use Rattle.spans.proofs.bits.with_one.Tie as tie
 
 returns : tie.Need-returns
-returns c = let small : 1 * 2 ^ c .args .k % 256 ≡ 2 ^ c .args .k = omega (arith, pow-lt {j = 8} (c .pre)) in
+returns c =
+    let small : 1 * 2 ^ c .args .k % 256 ≡ 2 ^ c .args .k = omega (arith, pow-lt {j = 8} (c .pre)) in
     rw small (or-with (c .args .x) (c .args .k))
 
 pub with-one-spec : {M : Type 1} → statement M

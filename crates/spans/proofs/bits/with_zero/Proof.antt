@@ -9,7 +9,8 @@ use Rattle.spans.proofs.bits.with_zero.Statement.{statement}
 use Rattle.spans.proofs.bits.with_zero.Tie as tie
 
 returns : tie.Need-returns
-returns c = let small : 1 * 2 ^ c .args .k % 256 ≡ 2 ^ c .args .k = omega (arith, pow-lt {j = 8} (c .pre)) in
+returns c =
+    let small : 1 * 2 ^ c .args .k % 256 ≡ 2 ^ c .args .k = omega (arith, pow-lt {j = 8} (c .pre)) in
     rw small (and-with (c .args .x) (c .args .k) 8 (c .pre) (omega arith))
 
 pub with-zero-spec : {M : Type 1} → statement M

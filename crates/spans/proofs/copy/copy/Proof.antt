@@ -20,12 +20,14 @@ loop-holds : tie.Need-loop-holds Inv-loop μ-loop
 loop-holds c = (search needs, refl, refl)
 
 loop-again : tie.Need-loop-again Inv-loop μ-loop
-loop-again c = let at-loop = c .before .before .loop in
+loop-again c =
+    let at-loop = c .before .before .loop in
     let args = c .before .before .before .args in
     (search needs, rw (at-loop .inv .1) (copy-more (now (args .src)) (now (args .dst)) (at-loop .i) (omega arith) (omega arith)), simp length-set (at-loop .inv .2))
 
 returns : tie.Need-returns Inv-loop μ-loop
-returns c = let at-loop = c .before .loop in
+returns c =
+    let at-loop = c .before .loop in
     let args = c .before .before .args in
     let all : at-loop .i ≡ length (now (args .dst)) = omega arith in
     rw all at (at-loop .inv .1) ∙ copy-end (now (args .src)) (now (args .dst)) (c .before .before .pre)

@@ -21,11 +21,13 @@ loop-holds : tie.Need-loop-holds Inv-loop μ-loop
 loop-holds c = (search needs, fill-none (now (c .args .p)) 0, refl)
 
 loop-again : tie.Need-loop-again Inv-loop μ-loop
-loop-again c = let at-loop = c .before .loop in
+loop-again c =
+    let at-loop = c .before .loop in
     (search needs, rw (at-loop .inv .1) (fill-more (at-loop .i) 0 (now (c .before .before .args .p)) (omega arith)), simp length-set (at-loop .inv .2))
 
 returns : tie.Need-returns Inv-loop μ-loop
-returns c = let at-loop = c .before .loop in
+returns c =
+    let at-loop = c .before .loop in
     let all : at-loop .i ≡ length (now (c .before .before .args .p)) = omega arith in
     rw all at (at-loop .inv .1) ∙ rw (drop-length, append-nil)
 

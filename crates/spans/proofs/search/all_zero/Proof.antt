@@ -19,11 +19,13 @@ loop-holds : tie.Need-loop-holds Inv-loop μ-loop
 loop-holds c = (search needs, refl)
 
 returns : tie.Need-returns Inv-loop μ-loop
-returns c = let at-loop = c .before .before .before .loop in
+returns c =
+    let at-loop = c .before .before .before .loop in
     sym (zeros-not (now (c .before .before .before .before .args .p)) (at-loop .i) (search needs) (c .if1 .taken)) ∙ at-loop .inv .1
 
 loop-again : tie.Need-loop-again Inv-loop μ-loop
-loop-again c = let at-loop = c .before .before .before .loop in
+loop-again c =
+    let at-loop = c .before .before .before .loop in
     (search needs, zeros-more (now (c .before .before .before .before .args .p)) (at-loop .i) (search needs) (c .if1 .left) ∙ at-loop .inv .1)
 
 returns-2 : tie.Need-returns-2 Inv-loop μ-loop

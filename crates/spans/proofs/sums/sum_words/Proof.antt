@@ -20,11 +20,13 @@ unfolding sumWords
 loop-holds c = search needs
 
 loop-again : tie.Need-loop-again Inv-loop μ-loop
-loop-again c = let at-loop = c .before .before .before .loop in
+loop-again c =
+    let at-loop = c .before .before .before .loop in
     (search needs, search needs, cc (sum-more (now (c .before .before .before .before .before .args .p)) (at-loop .i)))
 
 returns : tie.Need-returns Inv-loop μ-loop
-returns c = let at-loop = c .before .loop in
+returns c =
+    let at-loop = c .before .loop in
     let all : at-loop .i ≡ length (now (c .before .before .before .args .p)) / 4 = omega arith in
     at-loop .inv .2 ∙ ap (sumWords _) all
 
