@@ -3,3 +3,4 @@ pub mod View
 pub mod Check
 pub mod Consistent
 pub mod Requests
+pub mod Claims
