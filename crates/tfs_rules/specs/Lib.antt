@@ -4,3 +4,4 @@ pub mod Check
 pub mod Consistent
 pub mod Requests
 pub mod Claims
+pub mod CheckMeans
