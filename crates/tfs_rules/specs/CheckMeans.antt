@@ -80,10 +80,10 @@ label-zero l e t =
     (i, h, eqb→eq (getD l i 0) 0 (least-hit (zeroAt l) (length l) (omega arith)))
 
 -- "in 3..N−1"
-in-range : (v : View) (b : ℕ) → T (inRange (v .n) b) → Inside v b
+pub in-range : (v : View) (b : ℕ) → T (inRange (v .n) b) → Inside v b
 in-range v b t = record { low = leb→le 3 b (and-l (leb 3 b) _ t); high = ltb→lt b (v .n) (and-r (leb 3 b) _ t) }
 
-range-in : (v : View) (b : ℕ) → Inside v b → T (inRange (v .n) b)
+pub range-in : (v : View) (b : ℕ) → Inside v b → T (inRange (v .n) b)
 range-in v b h = and-of (leb 3 b) (ltb b (v .n)) (le→leb 3 b (h .low)) (lt→ltb b (v .n) (h .high))
 
 -- a test that holds somewhere below n is found
@@ -137,6 +137,7 @@ module _ (B : ℕ) (v : View) (b : ℕ) where
   of-reserved (inl h) = or-l (ltb b 3) _ (lt→ltb b 3 h)
   of-reserved (inr h) = or-r (ltb b 3) _ (le→leb 1 (times b (claims B v)) (owned-claimed B v b h))
 
+-- two tests that differ
 differ : (a b : Bool) → T (not (Bool·beq a b)) → (T (not a) × T b) ⊎ (T a × T (not b))
 differ true true t = absurd t
 differ true false t = inr (tt, tt)
@@ -154,7 +155,7 @@ differ-more true true s t = absurd t
 differ-more true false s t = tt
 
 -- ---- owners
-same-owner : (o p : Owner) → Dec (o ≡ p)
+pub same-owner : (o p : Owner) → Dec (o ≡ p)
 same-owner (inodeOf s) (inodeOf t) = elim (ℕ-discrete s t) [ yes e ↦ yes (ap inodeOf e) | no e ↦ no (λ d. e (cc)) ]
 same-owner (inodeOf s) (contentOf t k) = no (λ d. let z : _≡_ {A = ℕ} 0 1 = cc in omega arith)
 same-owner (contentOf s k) (inodeOf t) = no (λ d. let z : _≡_ {A = ℕ} 0 1 = cc in omega arith)
@@ -164,16 +165,18 @@ same-owner (contentOf s j) (contentOf t k) =
       | no e ↦ no (λ d. e (cc))
     ]
 
+-- the inode of a used slot is in 3..N−1
 pub used-inode : (v : View) (s : ℕ) → T (used v s) → Inside v (inode v s)
 unfolding used slotUsed inode
 used-inode v s t = in-range v (slotInode (slot (v .dir) s)) (and-l (inRange (v .n) (slotInode (slot (v .dir) s))) _ t)
 
--- an owned block is in 3..N−1
+-- where slots are free or used and numbers in range, an owned block is in 3..N−1
 owner-inside : (B : ℕ) (v : View) → ((s : ℕ) → s < slots B → T (free v s) ⊎ T (used v s)) → ((s k : ℕ) → File B v s → k < need B (size v s) → Inside v (number v s k)) → (o : Owner) (b : ℕ) → Owns B v o b → Inside v b
 owner-inside B v formed inside (inodeOf s) b h =
     ⊎-elim (λ t. absurd (T-not (free v s) (h .0 .taken) t)) (λ t. subst (Inside v) (h .1) (used-inode v s t)) (formed s (h .0 .slot))
 owner-inside B v formed inside (contentOf s k) b h = subst (Inside v) (h .2) (inside s k (h .0) (h .1))
 
+-- so it is on a sound volume
 pub owns-inside : (B : ℕ) (v : View) → Sound B v → (o : Owner) (b : ℕ) → Owns B v o b → Inside v b
 owns-inside B v ok = owner-inside B v (ok .formed) (ok .inside)
 
@@ -182,7 +185,8 @@ pub need-le : (B size m : ℕ) → 0 < B → size ≤ m * B → need B size ≤ 
 unfolding need
 need-le B size m pos h = omega (arith, div-lt-iff-lt-mul {k = B} {x = size + (B - 1)} {y = suc m} pos .1 (rw suc-mul (omega arith)))
 
-same-sym : (a b : List ℕ) → T (sameName a b) → T (sameName b a)
+-- having one name goes both ways
+pub same-sym : (a b : List ℕ) → T (sameName a b) → T (sameName b a)
 unfolding sameName
 same-sym a b t = rw (same-eq a b t) (same-refl b)
 
@@ -210,6 +214,7 @@ module _ (B : ℕ) (img : List ℕ) where
       ])))
       (rule before)
 
+  -- the rules are 1 to 7
   broken-from : (num p : ℕ) → Broken B img num p → (1 ≤ num) × (num < 8)
   broken-from _ _ (short h) = omega arith
   broken-from _ _ (unmagical h) = omega arith
@@ -402,6 +407,7 @@ module _ (B : ℕ) (img : List ℕ) where
       sound = record { formed = formed; apart = apart; small = small; inside = inside; rest = rest; once = once; mapped = mapped };
     }
 
+  -- a verdict is what the first broken rule is
   broken-is : (verdict : Verdict) → Says verdict → (num p : ℕ) → FirstBroken B img num p → verdict ≡ broken num p
   broken-is consistent says num p f = absurd (says num p (f .here))
   broken-is (broken num′ q) says num p f = ap₂ broken rule (place rule)
