@@ -5,3 +5,4 @@ pub mod Consistent
 pub mod Requests
 pub mod Claims
 pub mod CheckMeans
+pub mod MapWords
