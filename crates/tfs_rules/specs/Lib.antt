@@ -6,3 +6,4 @@ pub mod Requests
 pub mod Claims
 pub mod CheckMeans
 pub mod MapWords
+pub mod Room
