@@ -7,3 +7,4 @@ pub mod Claims
 pub mod CheckMeans
 pub mod MapWords
 pub mod Room
+pub mod Total
