@@ -12,7 +12,7 @@ use Rattle.tfs_rules.specs.Layout.{mapBit}
 use Rattle.tfs_rules.specs.View.{View, freeBlocks}
 use Rattle.tfs_rules.specs.Requests.{freeFrom}
 
--- ---- one block more
+-- ---- one block more: marked, or free
 pub free-marked : (map : List ℕ) (k d : ℕ) → mapBit map k ≡ true → freeFrom map k (suc d) ≡ freeFrom map (suc k) d
 unfolding freeFrom
 free-marked map k d e = ap (λ (b : Bool). cond b (freeFrom map (suc k) d) (k ∷ freeFrom map (suc k) d)) e
@@ -39,6 +39,7 @@ unfolding sum
 sum-front f zero = omega arith
 sum-front f (suc n) = omega (arith, sum-front f n)
 
+-- as many as there are zero bits among the d from k on
 pub free-length : (map : List ℕ) (k d : ℕ) → length (freeFrom map k d) ≡ count (λ i. not (mapBit map (k + i))) d
 unfolding sum
 free-length map k zero = ap length (free-end map k)
@@ -52,14 +53,15 @@ free-length map k (suc d) =
     (λ e. let z : f k ≡ 0 = ap (λ (b : Bool). cond {A = ℕ} (not b) 1 0) e in omega arith)
     (λ e. let z : f k ≡ 1 = ap (λ (b : Bool). cond {A = ℕ} (not b) 1 0) e in omega arith)
 
--- as many as there are zero bits below N
+-- "zero bits below N"
 pub free-count : (v : View) → length (freeFrom (v .map) 0 (v .n)) ≡ freeBlocks v
 unfolding freeBlocks
 free-count v =
     free-length (v .map) 0 (v .n)
     ∙ sum-cong (λ i. cond (not (mapBit (v .map) (0 + i))) 1 0) (λ i. cond (not (mapBit (v .map) i)) 1 0) (v .n) (λ i l. rw zero-add)
 
--- ---- each is free and in range, and they rise
+-- ---- what they are
+-- x is free, and one of the d blocks from k on
 pub record FreeIn (map : List ℕ) (k d x : ℕ) : Type 0 where
   pub low : k ≤ x
   pub high : x < k + d
@@ -72,6 +74,7 @@ member-cons : (map : List ℕ) (k d : ℕ) (l : List ℕ) → mapBit map k ≡ f
 member-cons map k d l e h zero b = record { low = omega arith; high = omega arith; clear = e }
 member-cons map k d l e h (suc m) b = free-wider map k d (getD l m 0) (h m (omega arith))
 
+-- each is free, and one of the d from k on
 pub free-member : (map : List ℕ) (k d m : ℕ) → m < length (freeFrom map k d) → FreeIn map k d (getD (freeFrom map k d) m 0)
 free-member map k zero m h = absurd (omega (arith, ap length (free-end map k)))
 free-member map k (suc d) m h =
@@ -85,6 +88,7 @@ rising-cons k l above rising i zero h b = absurd (omega arith)
 rising-cons k l above rising zero (suc j) h b = above j (omega arith)
 rising-cons k l above rising (suc i) (suc j) h b = rising i j (omega arith) (omega arith)
 
+-- each is less than the later ones
 pub free-rising : (map : List ℕ) (k d i j : ℕ) → i < j → j < length (freeFrom map k d) → getD (freeFrom map k d) i 0 < getD (freeFrom map k d) j 0
 free-rising map k zero i j l h = absurd (omega (arith, ap length (free-end map k)))
 free-rising map k (suc d) i j l h =
