@@ -11,7 +11,7 @@ abbrev pub zeros : ℕ → List ℕ
 zeros n = replicate n 0
 
 -- whether byte i is zero
-abbrev pub zeroAt : List ℕ → ℕ → Bool
+unfoldable pub zeroAt : List ℕ → ℕ → Bool
 zeroAt l i = eqb (getD l i 0) 0
 
 -- the index of the first zero byte, or the length where there is none

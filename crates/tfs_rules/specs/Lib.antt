@@ -3,3 +3,8 @@ pub mod View
 pub mod Check
 pub mod Consistent
 pub mod Requests
+pub mod Claims
+pub mod CheckMeans
+pub mod MapWords
+pub mod Room
+pub mod Total
