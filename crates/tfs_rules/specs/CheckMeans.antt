@@ -63,17 +63,17 @@ rule-places Bad num later f n yes-bad bad-yes =
 -- ---- what the tests say
 -- rule 3: no zero among 16 bytes
 label-bad : (l : List ℕ) → length l ≡ 16 → T (leb 16 (firstZero l)) → (i : ℕ) → i < 16 → getD l i 0 ≢ 0
-unfolding firstZero
+unfolding firstZero zeroAt
 label-bad l e t i h z = T-not (zeroAt l i) (least-below (zeroAt l) (length l) i (omega (arith, leb→le 16 (least (zeroAt l) (length l)) t))) (eqb-of z)
 
 label-yes : (l : List ℕ) → length l ≡ 16 → ((i : ℕ) → i < 16 → getD l i 0 ≢ 0) → T (leb 16 (firstZero l))
-unfolding firstZero
+unfolding firstZero zeroAt
 label-yes l e h =
     le→leb 16 (least (zeroAt l) (length l))
     (omega (arith, least-all (zeroAt l) (length l) (λ i k. neqb-of (getD l i 0) 0 (h i (omega arith)))))
 
 label-zero : (l : List ℕ) → length l ≡ 16 → T (not (leb 16 (firstZero l))) → (i : ℕ) × (i < 16) × (getD l i 0 ≡ 0)
-unfolding firstZero
+unfolding firstZero zeroAt
 label-zero l e t =
     let i : ℕ = least (zeroAt l) (length l) in
     let h : i < 16 = nleb→lt 16 i t in
