@@ -13,6 +13,7 @@ use Rattle.lists.specs.Part.{part, part-ext}
 use Rattle.tfs_rules.specs.Layout.{slots, need, blocks, block, slot, slotInode, inRange}
 use Rattle.tfs_rules.specs.View.{View, view, viewN, inodeAt, free, inode, size, number, place}
 use Rattle.tfs_rules.specs.Consistent.{File, Owner, inodeOf, contentOf, Owns, Inside, Sound}
+use Rattle.tfs_rules.specs.CheckMeans.{in-range}
 use Rattle.tfs_laws.specs.Sizes.{split-block, split-offset, rejoin, in-need, in-block, in-image}
 use Rattle.tfs_laws.specs.Views.{view-n, view-dir, free-inode, has}
 use Rattle.tfs_laws.specs.Writes.{Put, Files, Laid, effect, step, in-file, length-step, step-other}
@@ -33,9 +34,6 @@ owner-slot s t e = cc
 pub blocks-eq : (B : ℕ) (a b : List ℕ) → length a ≡ length b → blocks B a ≡ blocks B b
 unfolding blocks
 blocks-eq B a b e = ap (λ (l : ℕ). min (8 * B) (l / B)) e
-
-inside-of : (n i : ℕ) → T (inRange n i) → (3 ≤ i) × (i < n)
-inside-of n i t = (leb→le 3 i (and-l (leb 3 i) _ t), ltb→lt i n (and-r (leb 3 i) _ t))
 
 -- two images with the same blocks 0 to 2 and inodes have the same view
 pub view-eq : (B : ℕ) (a b : List ℕ) → length a ≡ length b → ((i : ℕ) → i < 3 → block B a i ≡ block B b i) → ((s : ℕ) → s < slots B → Inside (view B b) (inode (view B b) s) → block B a (inode (view B b) s) ≡ block B b (inode (view B b) s)) → view B a ≡ view B b

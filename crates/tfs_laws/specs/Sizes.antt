@@ -5,10 +5,10 @@ use Prim.Native.Nat.{ℕ, zero, suc, _+_, _-_, _*_, _/_, _%_, _≤_, _<_, min}
 use mathlib.Core.List.{List, [], _∷_, _++_}
 use native.Mathlib.Omega.{arith}
 use native.Mathlib.Decide.{decLt}
-use native.Mathlib.Nat.{div-add-mod', mod-lt, mul-le-mul-right, le-div-iff-mul-le, div-mul-le-self, suc-mul, le-trans, lt-of-le-of-lt, div-lt-iff-lt-mul}
+use native.Mathlib.Nat.{div-add-mod', mod-lt, mul-le-mul-right, le-div-iff-mul-le, div-mul-le-self, suc-mul, le-trans, lt-of-le-of-lt}
 use lib.Arith.{digits-lt, digits-div, digits-mod}
 use lib.ListN.{length}
-use Rattle.tfs_rules.specs.Layout.{BlockSize, need, blocks, numbers, maxSize}
+use Rattle.tfs_rules.specs.Layout.{need, blocks}
 
 module _ (B : ℕ) (pos : 0 < B) where
   -- a place says its block and its offset
@@ -28,13 +28,6 @@ module _ (B : ℕ) (pos : 0 < B) where
 
   pub in-block : (p : ℕ) → p % B < B
   in-block p = mod-lt p pos
-
-  -- a file of the largest size has as many blocks as an inode has numbers
-  pub need-most : (size m : ℕ) → size ≤ m * B → need B size ≤ m
-  unfolding need
-  need-most size m h =
-      let l : (size + (B - 1)) / B < suc m = (div-lt-iff-lt-mul pos) .1 (omega (arith, suc-mul m B)) in
-      omega arith
 
 -- blocks do not overlap
 pub after-block : (B x y : ℕ) → x < y → x * B + B ≤ y * B

@@ -33,13 +33,6 @@ pub free-inode : (v : View) (s : ℕ) → T (free v s) → inode v s ≡ 0
 unfolding free inode slotFree slotInode
 free-inode v s t = zero-word (slot (v .dir) s) 0 t
 
-pub used-inside : (v : View) (s : ℕ) → T (used v s) → Inside v (inode v s)
-unfolding used inode slotUsed
-used-inside v s t =
-    let i : ℕ = slotInode (slot (v .dir) s) in
-    let r : T (leb 3 i && ltb i (v .n)) = and-l (inRange (v .n) i) _ t in
-    record { low = leb→le 3 i (and-l (leb 3 i) _ r); high = ltb→lt i (v .n) (and-r (leb 3 i) _ r) }
-
 module _ (B : ℕ) (img : List ℕ) where
   pub view-n : view B img .n ≡ blocks B img
   unfolding view viewN
