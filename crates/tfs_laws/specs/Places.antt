@@ -50,8 +50,7 @@ view-eq B a b len low inodes =
         ap₂ (λ (m : ℕ) (d : List ℕ). cond (inRange m (slotInode (slot d s))) (block B a (slotInode (slot d s))) []) n (low 2 (omega arith))
         ∙ by-test (inRange (blocks B b) i)
         (λ t.
-        let r : (3 ≤ i) × (i < blocks B b) = inside-of (blocks B b) i t in
-        ap (λ (x : List ℕ). cond (inRange (blocks B b) i) x []) (inodes s h (record { low = r .0; high = r .1 })))
+        ap (λ (x : List ℕ). cond (inRange (blocks B b) i) x []) (inodes s h (in-range (view B b) i t)))
         (λ t. cond-no {X = List ℕ} (inRange (blocks B b) i) (block B a i) [] t ∙ sym (cond-no {X = List ℕ} (inRange (blocks B b) i) (block B b i) [] t))
 
     ino : table (inodeAt B (blocks B a) a) 0 (slots B) ≡ table (inodeAt B (blocks B b) b) 0 (slots B)
