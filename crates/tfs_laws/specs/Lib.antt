@@ -8,3 +8,6 @@ pub mod Stores
 pub mod MapBits
 pub mod Frame
 pub mod Names
+pub mod Ledger
+pub mod Others
+pub mod Removes
