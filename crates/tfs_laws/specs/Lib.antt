@@ -11,3 +11,5 @@ pub mod Names
 pub mod Ledger
 pub mod Others
 pub mod Removes
+pub mod Entries
+pub mod Creates
