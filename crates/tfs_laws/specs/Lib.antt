@@ -13,3 +13,4 @@ pub mod Others
 pub mod Removes
 pub mod Entries
 pub mod Creates
+pub mod WriteContents
