@@ -61,19 +61,19 @@ create-grant B v nm z t =
     }
 
 module _ (B : ℕ) (sz : BlockSize B) (img : List ℕ) (ok : Consistent B img) (nm : List ℕ) (z : ℕ) (gr : CreateGrant B (view B img) nm z) where
-  abbrev v : View
+  abbrev pub v : View
   v = view B img
 
-  abbrev s : ℕ
+  abbrev pub s : ℕ
   s = freeSlot B v
 
-  abbrev cs : List ℕ
+  abbrev pub cs : List ℕ
   cs = chosen B v z
 
-  abbrev i : ℕ
+  abbrev pub i : ℕ
   i = getD cs 0 0
 
-  abbrev bs : List ℕ
+  abbrev pub bs : List ℕ
   bs = drop 1 cs
 
   pos : 0 < B
@@ -83,15 +83,15 @@ module _ (B : ℕ) (sz : BlockSize B) (img : List ℕ) (ok : Consistent B img) (
   good = allowed nm (gr .named)
 
   -- ---- the chosen blocks
-  length-cs : length cs ≡ 1 + need B z
+  pub length-cs : length cs ≡ 1 + need B z
   unfolding chosen
   length-cs =
       length-take (1 + need B z) (freeFrom (v .map) 0 (v .n)) ∙ omega (arith, free-count v, gr .room)
 
-  cs-is : cs ≡ i ∷ bs
+  pub cs-is : cs ≡ i ∷ bs
   cs-is = drop-cons cs 0 0 (omega (arith, length-cs))
 
-  length-bs : length bs ≡ need B z
+  pub length-bs : length bs ≡ need B z
   length-bs = length-drop 1 cs ∙ omega (arith, length-cs)
 
   at-bs : (m : ℕ) → getD bs m 0 ≡ getD cs (suc m) 0
@@ -100,14 +100,14 @@ module _ (B : ℕ) (sz : BlockSize B) (img : List ℕ) (ok : Consistent B img) (
   few : need B z ≤ numbers B
   few = need-le B z (numbers B) pos (gr .small)
 
-  cs-free : (m : ℕ) → m < length cs → FreeIn (v .map) 0 (v .n) (getD cs m 0)
+  pub cs-free : (m : ℕ) → m < length cs → FreeIn (v .map) 0 (v .n) (getD cs m 0)
   unfolding chosen
   cs-free m h =
       let l : m < 1 + need B z = omega (arith, length-cs) in
       subst (FreeIn (v .map) 0 (v .n)) (sym (getD-take (1 + need B z) (freeFrom (v .map) 0 (v .n)) m 0 l))
       (free-member (v .map) 0 (v .n) m (omega (arith, free-count v, gr .room)))
 
-  rising : (m j : ℕ) → m < j → j < length cs → getD cs m 0 < getD cs j 0
+  pub rising : (m j : ℕ) → m < j → j < length cs → getD cs m 0 < getD cs j 0
   unfolding chosen
   rising m j a h =
       let l : j < 1 + need B z = omega (arith, length-cs) in
@@ -158,7 +158,7 @@ module _ (B : ℕ) (sz : BlockSize B) (img : List ℕ) (ok : Consistent B img) (
   abbrev a0 : List ℕ
   a0 = storeAll B img (zeroStores B bs)
 
-  abbrev new : List ℕ
+  abbrev pub new : List ℕ
   new = storeAll B img (createStores B v nm z)
 
   new-is : new ≡ storeAll B a0 lasts
@@ -166,10 +166,10 @@ module _ (B : ℕ) (sz : BlockSize B) (img : List ℕ) (ok : Consistent B img) (
   new-is =
       ap (λ (l : List ℕ). storeAll B img (placeStores B v s nm z l)) cs-is ∙ storeAll-append B (zeroStores B bs) lasts img
 
-  length-dir : length (v .dir) ≡ B
+  pub length-dir : length (v .dir) ≡ B
   length-dir = ap length (view-dir B img) ∙ length-block B img 2 (low-inside B img (ok .long) 2 (omega arith))
 
-  length-map : length (v .map) ≡ B
+  pub length-map : length (v .map) ≡ B
   length-map = ap length (view-map B img) ∙ length-block B img 1 (low-inside B img (ok .long) 1 (omega arith))
 
   inside-img : (b : ℕ) → b < v .n → b * B + B ≤ length img
@@ -234,7 +234,7 @@ module _ (B : ℕ) (sz : BlockSize B) (img : List ℕ) (ok : Consistent B img) (
   abbrev a2 : List ℕ
   a2 = setBlock B a1 1 map′
 
-  new-dir : block B new 2 ≡ dir′
+  pub new-dir : block B new 2 ≡ dir′
   new-dir =
       let l : length a2 ≡ length img = length-setBlock B a1 1 map′ (fits-a1 .0) (fits-a1 .1 .0) ∙ length-a1 in
       ap (λ (x : List ℕ). block B x 2) new-is
@@ -250,7 +250,7 @@ module _ (B : ℕ) (sz : BlockSize B) (img : List ℕ) (ok : Consistent B img) (
       ∙ zeroed B bs img fits0
       (λ a b l k e. omega (arith, rising (suc a) (suc b) (omega arith) (omega (arith, length-cs, length-bs)), at-bs a, at-bs b)) m h
 
-  frame : Frame B img new s
+  pub frame : Frame B img new s
   frame =
       record {
         long = long′;
@@ -265,20 +265,20 @@ module _ (B : ℕ) (sz : BlockSize B) (img : List ℕ) (ok : Consistent B img) (
   v′ = view B new
 
   -- ---- the new slot
-  new-slot : slot (v′ .dir) s ≡ entry i nm
+  pub new-slot : slot (v′ .dir) s ≡ entry i nm
   new-slot =
       ap (λ (x : List ℕ). slot x s) (view-dir B new ∙ new-dir) ∙ slot-set B (v .dir) s (entry i nm) length-dir (gr .slot) (length-entry nm good i)
 
-  new-file : File B v′ s
+  pub new-file : File B v′ s
   unfolding free
   new-file =
       record { slot = gr .slot; taken = subst (λ (x : List ℕ). T (not (slotFree x))) (sym new-slot) (entry-taken nm good i) }
 
-  new-number : inode v′ s ≡ i
+  pub new-number : inode v′ s ≡ i
   unfolding inode
   new-number = ap slotInode new-slot ∙ entry-inode nm good i
 
-  new-name : name v′ s ≡ nm
+  pub new-name : name v′ s ≡ nm
   unfolding name
   new-name = ap slotName new-slot ∙ entry-name nm good i
 
@@ -295,11 +295,11 @@ module _ (B : ℕ) (sz : BlockSize B) (img : List ℕ) (ok : Consistent B img) (
   new-block =
       inode-block B new s (gr .slot) (subst (Inside v′) (sym new-number) inside-new) ∙ ap (block B new) new-number ∙ new-inode
 
-  new-size : size v′ s ≡ z
+  pub new-size : size v′ s ≡ z
   unfolding size
   new-size = ap inodeSize new-block ∙ inode-size B z bs room-inode
 
-  new-at : (k : ℕ) → k < need B z → number v′ s k ≡ getD bs k 0
+  pub new-at : (k : ℕ) → k < need B z → number v′ s k ≡ getD bs k 0
   unfolding number
   new-at k h = ap (λ (x : List ℕ). inodeNumber x k) new-block ∙ inode-number B z bs room-inode k (omega (arith, length-bs))
 
@@ -338,7 +338,7 @@ module _ (B : ℕ) (sz : BlockSize B) (img : List ℕ) (ok : Consistent B img) (
               (contentOf s k, (new-file, subst (λ (x : ℕ). k < need B x) (sym new-size) l, new-at k l ∙ at-bs k ∙ e))
 
   -- positions of the chosen blocks tell them apart
-  same-position : (m j : ℕ) → m < length cs → j < length cs → getD cs m 0 ≡ getD cs j 0 → m ≡ j
+  pub same-position : (m j : ℕ) → m < length cs → j < length cs → getD cs m 0 ≡ getD cs j 0 → m ≡ j
   same-position m j hm hj e =
       elim (decLt m j) [
         | yes l ↦ absurd (omega (arith, rising m j l hj))
@@ -373,10 +373,10 @@ module _ (B : ℕ) (sz : BlockSize B) (img : List ℕ) (ok : Consistent B img) (
       ]
 
   -- ---- the map
-  bits-is : v′ .map ≡ setBits (v .map) 1 cs
+  pub bits-is : v′ .map ≡ setBits (v .map) 1 cs
   bits-is = view-map B new ∙ new-map ∙ ap (setBits (v .map) 1) (sym cs-is)
 
-  cs-mapped : Mapped (length (v .map)) cs
+  pub cs-mapped : Mapped (length (v .map)) cs
   cs-mapped = mapped-all cs (length (v .map)) (λ b p. omega (arith, map-inside B sz img b (picked b p .below), length-map))
 
   bit-in : (b : ℕ) → In b cs → T (mapBit (v′ .map) b)
@@ -407,7 +407,7 @@ module _ (B : ℕ) (sz : BlockSize B) (img : List ℕ) (ok : Consistent B img) (
       slot-miss B v nm (gr .fresh) t (file-from B img new s frame t d f)
       (subst (λ (x : List ℕ). T (sameName x nm)) (name-same B img new s frame t (f .slot) d) e)
 
-  apart′ : (t u : ℕ) → File B v′ t → File B v′ u → T (sameName (name v′ t) (name v′ u)) → t ≡ u
+  pub apart′ : (t u : ℕ) → File B v′ t → File B v′ u → T (sameName (name v′ t) (name v′ u)) → t ≡ u
   apart′ t u ft fu e =
       elim (ℕ-discrete t s) [
         | yes a ↦ elim (ℕ-discrete u s) [
@@ -424,7 +424,7 @@ module _ (B : ℕ) (sz : BlockSize B) (img : List ℕ) (ok : Consistent B img) (
   each : (P : ℕ → Type 0) → P s → ((t : ℕ) → t ≢ s → File B v′ t → P t) → (t : ℕ) → File B v′ t → P t
   each P here there t f = elim (ℕ-discrete t s) [ yes e ↦ subst P (sym e) here | no d ↦ there t d f ]
 
-  sound′ : Sound B v′
+  pub sound′ : Sound B v′
   sound′ =
       record {
         formed = λ t h.

@@ -14,3 +14,6 @@ pub mod Removes
 pub mod Entries
 pub mod Creates
 pub mod WriteContents
+pub mod Changes
+pub mod Orders
+pub mod CreateRemove

@@ -83,17 +83,17 @@ module _ (B : ℕ) (sz : BlockSize B) (img : List ℕ) (ok : Consistent B img) (
   unfolding removeStores
   kept b d1 d2 = stored-away B (store 2 dir′ ∷ store 1 map′ ∷ []) img b fits (d2, (d1, tt))
 
-  new-dir : block B new 2 ≡ dir′
+  pub new-dir : block B new 2 ≡ dir′
   unfolding removeStores
   new-dir = stored-first B (store 2 dir′) (store 1 map′ ∷ []) img fits ((λ e. omega arith), tt)
 
-  new-map : block B new 1 ≡ map′
+  pub new-map : block B new 1 ≡ map′
   unfolding removeStores
   new-map =
       let l : length (setBlock B img 2 dir′) ≡ length img = length-setBlock B img 2 dir′ (fits .0) (fits .1 .0) in
       block-same B (setBlock B img 2 dir′) 1 map′ (fits .1 .1 .0) (subst (λ (n : ℕ). 1 * B + B ≤ n) (sym l) (fits .1 .1 .1 .0))
 
-  frame : Frame B img new s
+  pub frame : Frame B img new s
   frame =
       record {
         long = long′;
@@ -167,7 +167,7 @@ module _ (B : ℕ) (sz : BlockSize B) (img : List ℕ) (ok : Consistent B img) (
         )
       ]
 
-  sound′ : Sound B v′
+  pub sound′ : Sound B v′
   sound′ =
       record {
         formed = λ t h.
