@@ -17,3 +17,4 @@ pub mod WriteContents
 pub mod Changes
 pub mod Orders
 pub mod CreateRemove
+pub mod Laws
