@@ -33,8 +33,7 @@ code unused = 2 ∷ []
 code (file nm i z) = 3 ∷ i ∷ z ∷ nm
 code (refused num p) = 4 ∷ num ∷ p ∷ []
 
--- the images: one to format and create in, and one for each of N = 131 and 130
--- the buffers: one to read into, one to write from
+-- what the definitions give: an image of 128 blocks, one of 131 and one of 130, a buffer to read into and one to write from
 unfoldable pub table : (img a b into from : List ℕ) → List (List ℕ)
 table img a b into from =
     let f : Outcome = format 512 img PUMP in
@@ -50,7 +49,7 @@ table img a b into from =
     ∷ slot (block 512 (c .image) 2) 0
     ∷ block 512 (c .image) 3
     ∷ code (freeAnswer 512 (c .image))
-    -- read at 900, 1,000 and 1,001; write at 990
+    -- read 200 at 900, 1,000 and 1,001; write 30 at 990
     ∷ code (read 512 (c .image) 3 900 into .answer)
     ∷ code (read 512 (c .image) 3 1000 into .answer)
     ∷ code (read 512 (c .image) 3 1001 into .answer)
@@ -58,11 +57,12 @@ table img a b into from =
     -- blocks 31 and 32 in a map
     ∷ setBit (zeros 512) 31 1
     ∷ setBit (zeros 512) 32 1
-    -- the largest file in an empty volume of 131 blocks, and of 130
+    -- create 65,024 in an empty volume, N = 131 and N = 130
     ∷ code (create 512 (format 512 a PUMP .image) TIMING 65024 .answer)
     ∷ code (create 512 (format 512 b PUMP .image) TIMING 65024 .answer)
     ∷ []
 
+-- the same rows written out
 unfoldable pub expected : List (List ℕ)
 expected =
     code done
