@@ -115,12 +115,12 @@ pub fn find_free(dir: &[u8]) -> usize
     requires { ⌜ length (now dir) ≡ 512 ⌝ }
     ensures { λ r. ⌜ (r ≡ findFree (now (dir .entry))) × (r ≤ 25) ⌝ }
 {
-    let mut s = 0;
-    while s < 25 {
-        if slot_free(dir, s) {
-            return s;
+    let mut free = 0;
+    while free < 25 {
+        if slot_free(dir, free) {
+            return free;
         }
-        s += 1;
+        free += 1;
     }
     25
 }

@@ -1,4 +1,4 @@
--- `find_free` meets its contract: no slot before s passes the test.
+-- `find_free` meets its contract: no slot before it is free.
 use Prim.Native.Nat.{_≤_, _-_}
 use borrow.Author.Count.{below-none, below-more}
 use Rattle.lists.specs.Least.{Below, found, none-found}
@@ -9,10 +9,10 @@ use Rattle.tfs_dir.proofs.find.find_free.Statement.{statement}
 use Rattle.tfs_dir.proofs.find.find_free.Tie as tie
 
 abbrev Inv-loop : tie.InvT-loop
-Inv-loop dir s₀ s = (s ≤ 25) × Below (λ t. slotFree (slot dir t)) s
+Inv-loop dir free₀ free = (free ≤ 25) × Below (λ t. slotFree (slot dir t)) free
 
 abbrev μ-loop : tie.MeasureT-loop
-μ-loop dir s₀ s = 25 - s
+μ-loop dir free₀ free = 25 - free
 
 loop-holds : tie.Need-loop-holds Inv-loop μ-loop
 loop-holds c = (search needs, below-none _)
