@@ -1,0 +1,32 @@
+-- `slot_named` meets its contract.
+use mathlib.Core.Path.{ap, _∙_}
+use mathlib.Core.List.{List}
+use Prim.Native.Nat.{ℕ}
+use denote.Ref.{now}
+use Rattle.tfs_rules.specs.Layout.{sameName}
+use Rattle.tfs_dir.specs.Slots.{name-cut}
+use borrow.Author.Needs.{needs}
+use Rattle.tfs_dir.proofs.slots.slot_named.Statement.{statement}
+use Rattle.tfs_dir.proofs.slots.slot_named.Tie as tie
+
+returns : tie.Need-returns
+unfolding sameName
+returns c =
+    let size = c .before .before .name-length in
+    let start = c .before .before .before .before .before in
+    let name = name-cut (now (start .args .dir)) (start .args .s) (start .pre .0) (start .pre .1) (size .result) (size .ensures .0) in
+    c .same .ensures ∙ ap (λ (l : List ℕ). sameName l (now (start .args .name))) name
+
+pub slot-named-spec : {M : Type 1} → statement M
+slot-named-spec =
+    tie.close
+    (tie.spec
+    (λ c κs. search needs)
+    (λ c. search needs)
+    (λ c. search needs)
+    (λ c. search needs)
+    (λ c. search needs)
+    (λ c. search needs)
+    (λ c. search needs)
+    (λ c κs. search needs)
+    returns)

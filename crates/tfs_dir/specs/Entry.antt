@@ -1,0 +1,25 @@
+-- The bytes of a slot as they are written.
+use mathlib.Core.Path.{_≡_, sym, ap, _∙_}
+use Prim.Native.Nat.{ℕ, zero, suc, _+_, _-_, _≤_}
+use native.Mathlib.Nat.{zero-sub, sub-zero, suc-sub-suc}
+use mathlib.Core.List.{List, [], _++_}
+use lib.ListN.{length, drop}
+use lib.Seq.{take-all}
+use Rattle.lists.specs.Name.{padTo, zeros}
+use Rattle.lists.specs.Word.{bytes4}
+use Rattle.lists.specs.Part.{withPart}
+use Rattle.tfs_rules.specs.Layout.{entry}
+
+drop-zeros : (k n : ℕ) → drop k (zeros n) ≡ zeros (n - k)
+drop-zeros zero n = ap zeros (sym (sub-zero n))
+drop-zeros (suc k) zero = ap zeros (sym (zero-sub (suc k)))
+drop-zeros (suc k) (suc n) = drop-zeros k n ∙ ap zeros (sym (suc-sub-suc n k))
+
+-- l and then the zeros that are left of n is l padded to n
+pub pad-with : (l : List ℕ) (n : ℕ) → length l ≤ n → l ++ drop (length l) (zeros n) ≡ padTo n l
+pad-with l n h = rw (drop-zeros (length l) n, take-all n l h)
+
+-- zeros, then the number, then the name, is a slot's entry
+pub entry-written : (inode : ℕ) (name : List ℕ) → length name ≤ 16 → withPart 4 (length name) name (withPart 0 4 (bytes4 inode) (zeros 20)) ≡ entry inode name
+unfolding withPart entry
+entry-written inode name h = ap (λ (l : List ℕ). bytes4 inode ++ l) (pad-with name 16 h)

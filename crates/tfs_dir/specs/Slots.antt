@@ -1,0 +1,70 @@
+-- The fields of a slot as parts of the directory.
+use mathlib.Core.Path.{_≡_, sym, ap, _∙_}
+use Prim.Native.Nat.{ℕ, zero, suc, _+_, _*_, _-_, _≤_, _<_}
+use native.Mathlib.Nat.{zero-add, suc-add, add-sub-cancel-left}
+use native.Mathlib.Omega.{arith}
+use mathlib.Core.List.{List, [], _∷_}
+use lib.ListN.{length, take, drop, length-drop}
+use lib.Seq.{take-all, take-take, take-nil, drop-drop, length-take-le}
+use Rattle.lists.specs.Least.{least-le}
+use Rattle.lists.specs.Name.{zeroAt, firstZero, upToZero}
+use Rattle.lists.specs.Part.{part, length-part}
+use Rattle.tfs_rules.specs.Layout.{slot, slotName}
+
+drop-take : (t k : ℕ) (l : List ℕ) → drop t (take (t + k) l) ≡ take k (drop t l)
+drop-take zero k l = rw zero-add
+drop-take (suc t) k [] = rw (suc-add, take-nil)
+drop-take (suc t) k (x ∷ l) = rw suc-add (drop-take t k l)
+
+-- a part of a part is a part of the whole
+pub part-part : (s n t m : ℕ) (l : List ℕ) → t + m ≤ n → part t m (part s n l) ≡ part (s + t) m l
+unfolding part
+part-part s n t m l h =
+    let e : t + (n - t) ≡ n = omega arith in
+    ap (take m) (rw e at (drop-take t (n - t) (drop s l)))
+    ∙ take-take m (n - t) (drop t (drop s l)) (omega arith)
+    ∙ ap (take m) (drop-drop t s l)
+
+-- all bytes from index z on
+pub rest-part : (l : List ℕ) (z n : ℕ) → length l ≡ n → take (n - z) (drop z l) ≡ drop z l
+rest-part l z n e = take-all (n - z) (drop z l) (simp length-drop (omega arith))
+
+-- the name field of slot s
+pub field-part : (dir : List ℕ) (s : ℕ) → part 4 16 (slot dir s) ≡ part (s * 20 + 4) 16 dir
+unfolding slot
+field-part dir s = part-part (s * 20) 20 4 16 dir (omega arith)
+
+-- the name of slot s as the front of its field
+name-field : (dir : List ℕ) (s : ℕ) → take (firstZero (part (s * 20 + 4) 16 dir)) (part (s * 20 + 4) 16 dir) ≡ slotName (slot dir s)
+unfolding slotName upToZero
+name-field dir s = rw (field-part dir s)
+
+pub zero-le : (l : List ℕ) → firstZero l ≤ length l
+unfolding firstZero
+zero-le l = least-le (zeroAt l) (length l)
+
+module _ (dir : List ℕ) (s : ℕ) (h : length dir ≡ 512) (b : s < 25) where
+  pub length-slot : length (slot dir s) ≡ 20
+  unfolding slot
+  length-slot = length-part (s * 20) 20 dir (omega arith)
+
+  pub length-field : length (part (s * 20 + 4) 16 dir) ≡ 16
+  length-field = length-part (s * 20 + 4) 16 dir (omega arith)
+
+  -- the name ends at the first zero of its field
+  pub length-name : length (slotName (slot dir s)) ≡ firstZero (part (s * 20 + 4) 16 dir)
+  unfolding slotName upToZero
+  length-name =
+      rw (field-part dir s)
+      (length-take-le (firstZero (part (s * 20 + 4) 16 dir)) (part (s * 20 + 4) 16 dir) (zero-le (part (s * 20 + 4) 16 dir)))
+
+  pub name-le : length (slotName (slot dir s)) ≤ 16
+  name-le = omega (arith, length-name, length-field, zero-le (part (s * 20 + 4) 16 dir))
+
+  -- the k bytes from the field's start on are the name, where k is its length
+  pub name-cut : (k : ℕ) → k ≡ length (slotName (slot dir s)) → take (s * 20 + 4 + k - (s * 20 + 4)) (drop (s * 20 + 4) dir) ≡ slotName (slot dir s)
+  unfolding part
+  name-cut k e =
+      let z : k ≡ firstZero (part (s * 20 + 4) 16 dir) = e ∙ length-name in
+      let short : k ≤ 16 = omega (arith, e, name-le) in
+      rw add-sub-cancel-left (sym (take-take k 16 (drop (s * 20 + 4) dir) short) ∙ ap (λ (n : ℕ). take n (part (s * 20 + 4) 16 dir)) z ∙ name-field dir s)

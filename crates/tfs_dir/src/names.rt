@@ -1,0 +1,41 @@
+// Names as requests and slots have them.
+ghost use mathlib.Core.Path.{_≡_};
+ghost use lib.ListN.{length};
+ghost use Rattle.tfs_rules.specs.Layout.{nameFormed, nameAllowed, labelAllowed};
+use spans::search::all_zero;
+use spans::search::first_zero;
+
+// Whether a volume may have this name: under 16 bytes, none of them zero.
+pub fn label_allowed(name: &[u8]) -> bool
+    ensures { λ r. ⌜ r ≡ labelAllowed (now (name .entry)) ⌝ }
+{
+    if name.len() < 16 {
+        return first_zero(name) == name.len();
+    }
+    false
+}
+
+// Whether a file may have this name: as a volume, and not empty.
+pub fn name_allowed(name: &[u8]) -> bool
+    ensures { λ r. ⌜ r ≡ nameAllowed (now (name .entry)) ⌝ }
+{
+    if 1 <= name.len() {
+        return label_allowed(name);
+    }
+    false
+}
+
+// Whether a slot's name field has a name of 1 to 15 bytes, then zeros to the end.
+pub fn name_formed(field: &[u8]) -> bool
+    requires { ⌜ length (now field) ≡ 16 ⌝ }
+    ensures { λ r. ⌜ r ≡ nameFormed (now (field .entry)) ⌝ }
+{
+    let z = first_zero(field);
+    if z < 1 {
+        return false;
+    }
+    if 16 <= z {
+        return false;
+    }
+    all_zero(&field[z..16])
+}

@@ -1,0 +1,39 @@
+// Slots filled and cleared.
+ghost use mathlib.Core.Path.{_≡_};
+ghost use Prim.Native.Nat.{_<_, _≤_};
+ghost use lib.ListN.{length, replicate};
+ghost use Rattle.tfs_rules.specs.Layout.{setSlot, entry};
+use spans::copy::copy;
+use spans::copy::zero;
+use spans::words::put32;
+
+// Makes the 20 bytes of a slot those of a file: its inode number, then its name and zeros.
+pub fn fill_slot(slot: &mut [u8], inode: u32, name: &[u8])
+    requires { ⌜ (length (now slot) ≡ 20) × (length (now name) ≤ 15) ⌝ }
+    ensures { λ _. ⌜ now (slot .exit) ≡ entry inode (now (name .entry)) ⌝ }
+{
+    zero(slot);
+    put32(slot, 0, inode);
+    let e = 4 + name.len();
+    copy(&mut slot[4..e], name);
+}
+
+// Enters a file in slot s.
+pub fn put_slot(dir: &mut [u8], s: usize, inode: u32, name: &[u8])
+    requires { ⌜ (length (now dir) ≡ 512) × (s < 25) × (length (now name) ≤ 15) ⌝ }
+    ensures { λ _. ⌜ now (dir .exit) ≡ setSlot (now (dir .entry)) s (entry inode (now (name .entry))) ⌝ }
+{
+    let a = s * 20;
+    let e = a + 20;
+    fill_slot(&mut dir[a..e], inode, name);
+}
+
+// Makes slot s free.
+pub fn clear_slot(dir: &mut [u8], s: usize)
+    requires { ⌜ (length (now dir) ≡ 512) × (s < 25) ⌝ }
+    ensures { λ _. ⌜ now (dir .exit) ≡ setSlot (now (dir .entry)) s (replicate 20 0) ⌝ }
+{
+    let a = s * 20;
+    let e = a + 20;
+    zero(&mut dir[a..e]);
+}
