@@ -1,11 +1,11 @@
 -- The bits of a list of blocks, one after another.
-use mathlib.Core.Path.{_≡_, refl, ap, _∙_}
-use Prim.Native.Nat.{ℕ, suc, _+_, _<_}
+use mathlib.Core.Path.{_≡_, refl, _∙_}
+use Prim.Native.Nat.{ℕ, _+_, _<_}
 use native.Mathlib.Numerals.{add-one}
 use mathlib.Core.List.{List, [], _∷_, _++_}
 use lib.ListN.{length, getD, take, length-set}
 use lib.Seq.{take-suc}
-use Rattle.tfs_rules.specs.Layout.{mapByte, setBit, setBits}
+use Rattle.tfs_rules.specs.Layout.{setBit, setBits}
 
 pub length-bit : (map : List ℕ) (b v : ℕ) → length (setBit map b v) ≡ length map
 unfolding setBit

@@ -1,11 +1,11 @@
 -- `set_bits` meets its contract: the bits of the first i blocks are made.
 use mathlib.Core.Path.{_≡_, refl, ap, _∙_}
-use Prim.Native.Nat.{_+_, _-_, _≤_, _<_}
+use Prim.Native.Nat.{_-_, _≤_, _<_}
 use native.Mathlib.Omega.{arith}
 use lib.ListN.{length, getD, take}
 use lib.Seq.{take-all}
 use denote.Ref.{now}
-use Rattle.tfs_rules.specs.Layout.{setBit, setBits}
+use Rattle.tfs_rules.specs.Layout.{setBits}
 use Rattle.tfs_map.specs.Bits.{bits-take}
 use borrow.Author.Needs.{needs}
 use Rattle.tfs_map.proofs.bits.set_bits.Statement.{statement}

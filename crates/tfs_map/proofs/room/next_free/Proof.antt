@@ -1,7 +1,6 @@
 -- `next_free` meets its contract: the blocks from b on decide.
 use mathlib.Core.Path.{_≡_, refl, sym, _∙_}
 use Prim.Native.Nat.{_-_, _≤_}
-use native.Mathlib.Omega.{arith}
 use denote.Ref.{now}
 use borrow.Author.Tests.{not-true, not-false}
 use Rattle.tfs_map.specs.Free.{nextFree, next-end, next-here, next-past}
