@@ -1,0 +1,18 @@
+-- `inode_wrong` meets its contract.
+use borrow.Author.Tests.{lt-ltb, le-ltb}
+use Rattle.tfs_inode.specs.Wrong.{numbersWrong, inodeWrong}
+use borrow.Author.Needs.{needs}
+use Rattle.tfs_inode.proofs.rule.inode_wrong.Statement.{statement}
+use Rattle.tfs_inode.proofs.rule.inode_wrong.Tie as tie
+
+returns : tie.Need-returns
+unfolding inodeWrong
+returns c = rw (← c .before .inode-size .ensures, lt-ltb _ _ (c .if1 .taken))
+
+returns-2 : tie.Need-returns-2
+unfolding inodeWrong numbersWrong
+returns-2 c = rw (← c .before .before .inode-size .ensures, le-ltb _ _ (c .before .if1 .left)) (c .numbers-wrong .ensures)
+
+pub inode-wrong-spec : {M : Type 1} → statement M
+inode-wrong-spec =
+    tie.close (tie.spec (λ c κs. search needs) returns (λ c κs. search needs) returns-2)

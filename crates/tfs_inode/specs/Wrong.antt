@@ -1,0 +1,69 @@
+-- Rule 5 on one inode.
+use mathlib.Core.Path.{_≡_, refl}
+use mathlib.Core.Bool.{Bool, true, false, not, cond, _&&_, _||_}
+use Prim.Native.Nat.{ℕ, _≤_, _<_}
+use native.Mathlib.Omega.{arith}
+use mathlib.Core.List.{List, []}
+use lib.ListN.{getD}
+use lib.Dec.{T, leb, ltb, eqb, leb→le, ltb→lt}
+use borrow.Author.Tests.{lt-ltb, ltb-false}
+use Rattle.lists.specs.Test.{not-not, and-l, and-r}
+use Rattle.lists.specs.Least.{least, least-none}
+use Rattle.tfs_rules.specs.Layout.{numbers, maxSize, need, inRange, inodeSize, inodeNumber}
+use Rattle.tfs_rules.specs.View.{View, free, size, number}
+use Rattle.tfs_rules.specs.Check.{badNumber, badInode}
+
+-- one of the first numbers is outside 3..n−1, or a later one is not 0
+unfoldable pub numberWrong : ℕ → ℕ → List ℕ → ℕ → Bool
+numberWrong B n ino k = cond (ltb k (need B (inodeSize ino))) (not (inRange n (inodeNumber ino k))) (not (eqb (inodeNumber ino k) 0))
+
+unfoldable pub numbersWrong : ℕ → ℕ → List ℕ → Bool
+numbersWrong B n ino = ltb (least (numberWrong B n ino) (numbers B)) (numbers B)
+
+unfoldable pub inodeWrong : ℕ → ℕ → List ℕ → Bool
+inodeWrong B n ino = ltb (maxSize B) (inodeSize ino) || ltb (least (numberWrong B n ino) (numbers B)) (numbers B)
+
+-- the rule of a slot is that of its inode
+pub bad-inode : (B : ℕ) (v : View) (s : ℕ) → badInode B v s ≡ (not (free v s) && inodeWrong B (v .n) (getD (v .inodes) s []))
+unfolding badInode badNumber size number inodeWrong numberWrong
+bad-inode B v s = refl
+
+-- ---- a search through the numbers
+pub wrong-found : (n : ℕ) (ino : List ℕ) (k : ℕ) → k < 127 → k ≡ least (numberWrong 512 n ino) 127 → numbersWrong 512 n ino ≡ true
+unfolding numbersWrong
+wrong-found n ino k h e = rw (← e) (lt-ltb k 127 h)
+
+pub wrong-none : (n : ℕ) (ino : List ℕ) → 127 ≡ least (numberWrong 512 n ino) 127 → numbersWrong 512 n ino ≡ false
+unfolding numbersWrong
+wrong-none n ino e = rw (← e)
+
+-- ---- what an inode that is not wrong says
+or-no-l : (a b : Bool) → (a || b) ≡ false → a ≡ false
+or-no-l true b e = e
+or-no-l false b e = refl
+
+or-no-r : (a b : Bool) → (a || b) ≡ false → b ≡ false
+or-no-r true b e = cc
+or-no-r false b e = e
+
+pub need-small : (size : ℕ) → size ≤ 65024 → need 512 size ≤ 127
+unfolding need
+need-small size h = omega arith
+
+module _ (n : ℕ) (ino : List ℕ) (right : inodeWrong 512 n ino ≡ false) where
+  pub right-size : inodeSize ino ≤ 65024
+  unfolding inodeWrong numbersWrong
+  right-size = ltb-false 65024 (inodeSize ino) (or-no-l (ltb 65024 (inodeSize ino)) (numbersWrong 512 n ino) right)
+
+  pub right-need : need 512 (inodeSize ino) ≤ 127
+  right-need = need-small (inodeSize ino) right-size
+
+  pub right-number : (k : ℕ) → k < need 512 (inodeSize ino) → (3 ≤ inodeNumber ino k) × (inodeNumber ino k < n)
+  unfolding inodeWrong numbersWrong numberWrong
+  right-number k h =
+      let last : ℕ = least (numberWrong 512 n ino) 127 in
+      let none : 127 ≤ last = ltb-false last 127 (or-no-r (ltb 65024 (inodeSize ino)) (ltb last 127) right) in
+      let no : T (not (numberWrong 512 n ino k)) = least-none (numberWrong 512 n ino) 127 none k (omega (arith, right-need)) in
+      let x : ℕ = inodeNumber ino k in
+      let within : T (inRange n x) = not-not (inRange n x) (rw (lt-ltb k (need 512 (inodeSize ino)) h) at no) in
+      (leb→le 3 x (and-l (leb 3 x) (ltb x n) within), ltb→lt x n (and-r (leb 3 x) (ltb x n) within))

@@ -1,0 +1,30 @@
+// The size and the numbers of an inode.
+ghost use mathlib.Core.Path.{_≡_};
+ghost use Prim.Native.Nat.{_<_};
+ghost use lib.ListN.{length};
+ghost use Rattle.tfs_rules.specs.Layout.{need, inodeSize, inodeNumber};
+use spans::words::be32;
+
+// The file's size in bytes.
+pub fn inode_size(ino: &[u8]) -> u32
+    requires { ⌜ length (now ino) ≡ 512 ⌝ }
+    ensures { λ r. ⌜ r ≡ inodeSize (now (ino .entry)) ⌝ }
+{
+    be32(ino, 0)
+}
+
+// Block number k.
+pub fn inode_number(ino: &[u8], k: usize) -> u32
+    requires { ⌜ (length (now ino) ≡ 512) × (k < 127) ⌝ }
+    ensures { λ r. ⌜ r ≡ inodeNumber (now (ino .entry)) k ⌝ }
+{
+    be32(ino, 4 + 4 * k)
+}
+
+// How many blocks hold `size` bytes.
+pub fn blocks_needed(size: u32) -> usize
+    ensures { λ r. ⌜ r ≡ need 512 size ⌝ }
+{
+    let bytes = size as usize;
+    (bytes + 511) / 512
+}

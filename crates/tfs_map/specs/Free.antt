@@ -1,0 +1,131 @@
+-- The free blocks of a map: how many, the next one, all of them in order.
+use mathlib.Core.Path.{_≡_, refl, ap, _∙_}
+use mathlib.Core.Bool.{Bool, true, false, not, cond}
+use Prim.Native.Nat.{ℕ, zero, suc, _+_, _-_, _≤_, _<_}
+use native.Mathlib.Numerals.{add-one}
+use native.Mathlib.Omega.{arith}
+use mathlib.Core.List.{List, [], _∷_, _++_}
+use lib.ListN.{length, getD, drop, length-append}
+use lib.Seq.{drop-cons}
+use Rattle.lists.specs.Sum.{sum, count, count-le}
+use Rattle.tfs_rules.specs.Layout.{mapBit}
+use Rattle.tfs_rules.specs.View.{View, freeBlocks}
+use Rattle.tfs_rules.specs.Requests.{freeFrom}
+use Rattle.tfs_map.specs.Under.{Under}
+
+-- how many of the first n blocks are free
+unfoldable pub freeBelow : List ℕ → ℕ → ℕ
+freeBelow map n = count (λ b. not (mapBit map b)) n
+
+pub free-blocks : (v : View) → freeBlocks v ≡ freeBelow (v .map) (v .n)
+unfolding freeBlocks freeBelow
+free-blocks v = refl
+
+pub free-le : (map : List ℕ) (n : ℕ) → freeBelow map n ≤ n
+unfolding freeBelow
+free-le map n = count-le (λ b. not (mapBit map b)) n
+
+-- one block more
+pub free-none : (map : List ℕ) → freeBelow map 0 ≡ 0
+unfolding freeBelow sum
+free-none map = refl
+
+pub free-held : (map : List ℕ) (n : ℕ) → mapBit map n ≡ true → freeBelow map (n + 1) ≡ freeBelow map n
+unfolding freeBelow sum
+free-held map n e = rw (add-one, e) (omega arith)
+
+pub free-more : (map : List ℕ) (n : ℕ) → mapBit map n ≡ false → freeBelow map (n + 1) ≡ freeBelow map n + 1
+unfolding freeBelow sum
+free-more map n e = rw (add-one n, e)
+
+-- the lowest free block from k on among the next d, or k + d
+unfoldable pub nextFree : List ℕ → ℕ → ℕ → ℕ
+nextFree map k zero = k
+nextFree map k (suc d) = let t : ℕ = nextFree map (suc k) d in cond (mapBit map k) t k
+
+-- ---- a search that goes up to n
+pub next-end : (map : List ℕ) (k n : ℕ) → n ≤ k → nextFree map k (n - k) ≡ k
+unfolding nextFree
+next-end map k n h = let e : n - k ≡ 0 = omega arith in rw e
+
+pub next-here : (map : List ℕ) (k n : ℕ) → k < n → mapBit map k ≡ false → nextFree map k (n - k) ≡ k
+unfolding nextFree
+next-here map k n h e = let s : n - k ≡ suc (n - suc k) = omega arith in rw (s, e)
+
+pub next-past : (map : List ℕ) (k n : ℕ) → k < n → mapBit map k ≡ true → nextFree map (k + 1) (n - (k + 1)) ≡ nextFree map k (n - k)
+unfolding nextFree
+next-past map k n h e = let s : n - k ≡ suc (n - suc k) = omega arith in rw (s, e, add-one)
+
+-- ---- the list of free blocks
+-- its head is the next free block, its tail the free blocks after that
+pub record Next (map : List ℕ) (k d x : ℕ) (rest : List ℕ) : Type 0 where
+  pub next : nextFree map k d ≡ x
+  pub low : k ≤ x
+  pub below : x < k + d
+  pub tail : freeFrom map (suc x) (k + d - suc x) ≡ rest
+
+pub free-next : (map : List ℕ) (k d x : ℕ) (rest : List ℕ) → freeFrom map k d ≡ x ∷ rest → Next map k d x rest
+unfolding freeFrom nextFree
+free-next map k zero x rest e = absurd (let z : _≡_ {A = ℕ} 0 1 = cc in omega arith)
+free-next map k (suc d) x rest e = by (mapBit map k) refl (free-next map (suc k) d x rest)
+  where
+    by : (t : Bool) → mapBit map k ≡ t → (freeFrom map (suc k) d ≡ x ∷ rest → Next map (suc k) d x rest) → Next map k (suc d) x rest
+    by true t more =
+        let r : Next map (suc k) d x rest = more (rw t at e) in
+        let s : k + suc d ≡ suc k + d = omega arith in
+        record { next = rw t (r .next); low = omega arith; below = omega arith; tail = rw s (r .tail) }
+    by false t more =
+        let f : k ∷ freeFrom map (suc k) d ≡ x ∷ rest = rw t at e in
+        let a : k ≡ x = cc in
+        let b : freeFrom map (suc k) d ≡ rest = cc in
+        let s : k + suc d - suc x ≡ d = omega arith in
+        record { next = rw t a; low = omega arith; below = omega arith; tail = rw (s, ← a) b }
+
+-- where the free blocks from k on are all but the first i, the next one is number i
+pub record Turn (map : List ℕ) (n i x : ℕ) : Type 0 where
+  pub below : x + 1 ≤ n
+  pub rest : freeFrom map (x + 1) (n - (x + 1)) ≡ drop (i + 1) (freeFrom map 0 n)
+  pub taken : x ≡ getD (freeFrom map 0 n) i 0
+
+pub turn : (map : List ℕ) (n i k x : ℕ) → k ≤ n → freeFrom map k (n - k) ≡ drop i (freeFrom map 0 n) → i < length (freeFrom map 0 n) → x ≡ nextFree map k (n - k) → Turn map n i x
+turn map n i k x h e l r =
+    let all : List ℕ = freeFrom map 0 n in
+    let f : Next map k (n - k) (getD all i 0) (drop (suc i) all) = free-next map k (n - k) (getD all i 0) (drop (suc i) all) (e ∙ drop-cons all i 0 l) in
+    let at : x ≡ getD all i 0 = r ∙ f .next in
+    let s : k + (n - k) ≡ n = omega arith in
+    record { below = omega (arith, at, f .below); rest = rw (add-one x, add-one i, at) (rw s at (f .tail)); taken = at }
+
+-- the last block at the end
+pub from-more : (map : List ℕ) (k d : ℕ) → freeFrom map k (suc d) ≡ freeFrom map k d ++ cond (mapBit map (k + d)) [] ((k + d) ∷ [])
+unfolding freeFrom
+from-more map k zero = let e : k + 0 ≡ k = omega arith in rw e
+from-more map k (suc d) =
+    let s : suc k + d ≡ k + suc d = omega arith in
+    by (mapBit map k) refl (rw s at (from-more map (suc k) d))
+  where
+    by : (t : Bool) → mapBit map k ≡ t → freeFrom map (suc k) (suc d) ≡ freeFrom map (suc k) d ++ cond (mapBit map (k + suc d)) [] ((k + suc d) ∷ []) → freeFrom map k (suc (suc d)) ≡ freeFrom map k (suc d) ++ cond (mapBit map (k + suc d)) [] ((k + suc d) ∷ [])
+    by true t step = rw t step
+    by false t step = rw t (ap (λ (l : List ℕ). k ∷ l) step)
+
+-- there are as many as are counted
+pub free-length : (map : List ℕ) (n : ℕ) → length (freeFrom map 0 n) ≡ freeBelow map n
+unfolding freeFrom freeBelow sum
+free-length map zero = refl
+free-length map (suc n) =
+    let z : 0 + n ≡ n = omega arith in
+    rw (from-more, z, length-append) (by (mapBit map n) (free-length map n))
+  where
+    by : (t : Bool) → length (freeFrom map 0 n) ≡ freeBelow map n → length (freeFrom map 0 n) + length (cond t [] (n ∷ [])) ≡ freeBelow map n + cond (not t) 1 0
+    by true e = omega arith
+    by false e = omega arith
+
+-- and each lies in the range
+pub free-under : (map : List ℕ) (k d : ℕ) → Under (k + d) (freeFrom map k d)
+unfolding freeFrom
+free-under map k zero = λ i h. absurd (omega arith)
+free-under map k (suc d) = by (mapBit map k) (freeFrom map (suc k) d) (free-under map (suc k) d)
+  where
+    by : (t : Bool) (rest : List ℕ) → Under (suc k + d) rest → Under (k + suc d) (cond t rest (k ∷ rest))
+    by true rest u i h = omega (arith, u i h)
+    by false rest u zero h = omega arith
+    by false rest u (suc i) h = omega (arith, u i (omega arith))
