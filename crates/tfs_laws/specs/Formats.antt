@@ -58,19 +58,19 @@ zeros-free n s =
 pub length-pad : (n : ℕ) (l : List ℕ) → length (padTo n l) ≡ n
 length-pad n l = simp (length-append, length-take, length-replicate) (omega arith)
 
--- ---- stores and the bytes past them
--- every store ends at q or before
-abbrev pub Before : ℕ → ℕ → List Store → Type 0
-Before B q [] = Unit {0}
-Before B q (x ∷ xs) = (x .at * B + B ≤ q) × Before B q xs
+-- ---- stores that end at len or before
+pub fits-up : (B len more : ℕ) → len ≤ more → (xs : List Store) → Fits B len xs → Fits B more xs
+fits-up B len more h [] f = tt
+fits-up B len more h (x ∷ xs) f = (f .0, (omega (arith, f .1 .0), fits-up B len more h xs (f .1 .1)))
 
-pub stored-past : (B : ℕ) (xs : List Store) (img : List ℕ) (q : ℕ) → Fits B (length img) xs → Before B q xs → getD (storeAll B img xs) q 0 ≡ getD img q 0
+-- keep every byte from len on
+pub stored-past : (B len : ℕ) (xs : List Store) (img : List ℕ) (q : ℕ) → Fits B len xs → len ≤ length img → len ≤ q → getD (storeAll B img xs) q 0 ≡ getD img q 0
 unfolding setBlock
-stored-past B [] img q f a = refl
-stored-past B (x ∷ xs) img q f a =
-    let l : length (setBlock B img (x .at) (x .bytes)) ≡ length img = length-setBlock B img (x .at) (x .bytes) (f .0) (f .1 .0) in
-    stored-past B xs (setBlock B img (x .at) (x .bytes)) q (subst (λ (n : ℕ). Fits B n xs) (sym l) (f .1 .1)) (a .1)
-    ∙ getD-with-after (x .at * B) B (x .bytes) img (f .0) (f .1 .0) q (a .0)
+stored-past B len [] img q f h l = refl
+stored-past B len (x ∷ xs) img q f h l =
+    let k : x .at * B + B ≤ length img = omega (arith, f .1 .0) in
+    stored-past B len xs (setBlock B img (x .at) (x .bytes)) q (f .1 .1) (omega (arith, length-setBlock B img (x .at) (x .bytes) (f .0) k)) l
+    ∙ getD-with-after (x .at * B) B (x .bytes) img (f .0) k q (omega (arith, f .1 .0))
 
 -- a store that no later one touches
 pub stored-at : (B : ℕ) (xs : List Store) (x : Store) (ys : List Store) (img : List ℕ) → Fits B (length img) (xs ++ (x ∷ ys)) → Away (x .at) ys → block B (storeAll B img (xs ++ (x ∷ ys))) (x .at) ≡ x .bytes
@@ -156,9 +156,9 @@ module _ (B : ℕ) (size : BlockSize B) (img label : List ℕ) (long : 3 * B ≤
   abbrev formatted : List ℕ
   formatted = storeAll B img (formatStores B label)
 
-  format-fits : Fits B (length img) (formatStores B label)
+  fits-low : Fits B (3 * B) (formatStores B label)
   unfolding formatStores
-  format-fits = (
+  fits-low = (
     omega (arith, size .large, length-pad (B - 4) label),
     (
       omega arith,
@@ -166,12 +166,14 @@ module _ (B : ℕ) (size : BlockSize B) (img label : List ℕ) (long : 3 * B ≤
     ),
   )
 
+  format-fits : Fits B (length img) (formatStores B label)
+  format-fits = fits-up B (3 * B) (length img) long (formatStores B label) fits-low
+
   formatted-length : length formatted ≡ length img
   formatted-length = length-storeAll B (formatStores B label) img format-fits
 
   formatted-past : (q : ℕ) → 3 * B ≤ q → getD formatted q 0 ≡ getD img q 0
-  unfolding formatStores
-  formatted-past q h = stored-past B (formatStores B label) img q format-fits (omega arith)
+  formatted-past q h = stored-past B (3 * B) (formatStores B label) img q fits-low long h
 
   formatted-head : view B formatted .head ≡ formatHead B label
   unfolding formatStores

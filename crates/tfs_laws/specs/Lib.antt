@@ -6,3 +6,5 @@ pub mod Places
 pub mod WriteLists
 pub mod Stores
 pub mod MapBits
+pub mod Formats
+pub mod Reads
