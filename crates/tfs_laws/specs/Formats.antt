@@ -226,7 +226,7 @@ by-format B img label P short bad full =
     (λ u. subst P (sym (cond-no (not (labelAllowed label)) _ _ (yes-yes (labelAllowed label) u))) (full (nltb→le (length img) (3 * B) t) u))
     (λ u. subst P (sym (cond-yes (not (labelAllowed label)) _ _ u)) (bad u))))
 
-not-granted {ℓ} : {X : Type ℓ} → false ≡ true → X
+pub not-granted {ℓ} : {X : Type ℓ} → false ≡ true → X
 not-granted e = absurd (subst T (sym e) tt)
 
 module _ {B : ℕ} (size : BlockSize B) (img label : List ℕ) where

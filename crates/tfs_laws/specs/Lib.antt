@@ -8,3 +8,4 @@ pub mod Stores
 pub mod MapBits
 pub mod Formats
 pub mod Reads
+pub mod Kept
