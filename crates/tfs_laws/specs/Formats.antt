@@ -153,7 +153,7 @@ module _ (B : ℕ) (v : View) (clear : (s : ℕ) → T (free v s)) where
   slotOf-empty nm = least-all (λ s. not (free v s) && sameName (name v s) nm) (slots B) (λ s l. not-T (not (free v s) && sameName (name v s) nm) (λ t. T-not (free v s) (and-l (not (free v s)) _ t) (clear s)))
 
 module _ (B : ℕ) (size : BlockSize B) (img label : List ℕ) (long : 3 * B ≤ length img) where
-  abbrev formatted : List ℕ
+  abbrev pub formatted : List ℕ
   formatted = storeAll B img (formatStores B label)
 
   fits-low : Fits B (3 * B) (formatStores B label)
@@ -169,10 +169,10 @@ module _ (B : ℕ) (size : BlockSize B) (img label : List ℕ) (long : 3 * B ≤
   format-fits : Fits B (length img) (formatStores B label)
   format-fits = fits-up B (3 * B) (length img) long (formatStores B label) fits-low
 
-  formatted-length : length formatted ≡ length img
+  pub formatted-length : length formatted ≡ length img
   formatted-length = length-storeAll B (formatStores B label) img format-fits
 
-  formatted-past : (q : ℕ) → 3 * B ≤ q → getD formatted q 0 ≡ getD img q 0
+  pub formatted-past : (q : ℕ) → 3 * B ≤ q → getD formatted q 0 ≡ getD img q 0
   formatted-past q h = stored-past B (3 * B) (formatStores B label) img q fits-low long h
 
   formatted-head : view B formatted .head ≡ formatHead B label

@@ -9,3 +9,4 @@ pub mod MapBits
 pub mod Formats
 pub mod Reads
 pub mod Kept
+pub mod Tail
