@@ -152,45 +152,46 @@ module _ (B : ℕ) (v : View) (clear : (s : ℕ) → T (free v s)) where
   unfolding slotOf
   slotOf-empty nm = least-all (λ s. not (free v s) && sameName (name v s) nm) (slots B) (λ s l. not-T (not (free v s) && sameName (name v s) nm) (λ t. T-not (free v s) (and-l (not (free v s)) _ t) (clear s)))
 
+-- format stores to blocks 0 to 2
+pub format-fits : (B : ℕ) → BlockSize B → (label : List ℕ) → Fits B (3 * B) (formatStores B label)
+unfolding formatStores
+format-fits B size label = (
+  omega (arith, size .large, length-pad (B - 4) label),
+  (
+    omega arith,
+    (length-setBits (0 ∷ 1 ∷ 2 ∷ []) (zeros B) 1 ∙ length-replicate B 0, (omega arith, (length-replicate B 0, (omega arith, tt)))),
+  ),
+)
+
 module _ (B : ℕ) (size : BlockSize B) (img label : List ℕ) (long : 3 * B ≤ length img) where
   abbrev pub formatted : List ℕ
   formatted = storeAll B img (formatStores B label)
 
-  fits-low : Fits B (3 * B) (formatStores B label)
-  unfolding formatStores
-  fits-low = (
-    omega (arith, size .large, length-pad (B - 4) label),
-    (
-      omega arith,
-      (length-setBits (0 ∷ 1 ∷ 2 ∷ []) (zeros B) 1 ∙ length-replicate B 0, (omega arith, (length-replicate B 0, (omega arith, tt)))),
-    ),
-  )
-
-  format-fits : Fits B (length img) (formatStores B label)
-  format-fits = fits-up B (3 * B) (length img) long (formatStores B label) fits-low
+  fits : Fits B (length img) (formatStores B label)
+  fits = fits-up B (3 * B) (length img) long (formatStores B label) (format-fits B size label)
 
   pub formatted-length : length formatted ≡ length img
-  formatted-length = length-storeAll B (formatStores B label) img format-fits
+  formatted-length = length-storeAll B (formatStores B label) img fits
 
   pub formatted-past : (q : ℕ) → 3 * B ≤ q → getD formatted q 0 ≡ getD img q 0
-  formatted-past q h = stored-past B (3 * B) (formatStores B label) img q fits-low long h
+  formatted-past q h = stored-past B (3 * B) (formatStores B label) img q (format-fits B size label) long h
 
   formatted-head : view B formatted .head ≡ formatHead B label
   unfolding formatStores
   formatted-head =
-      view-head B formatted ∙ stored-first B (store 0 (formatHead B label)) (store 1 (formatMap B) ∷ store 2 (zeros B) ∷ []) img format-fits (omega arith, (omega arith, tt))
+      view-head B formatted ∙ stored-first B (store 0 (formatHead B label)) (store 1 (formatMap B) ∷ store 2 (zeros B) ∷ []) img fits (omega arith, (omega arith, tt))
 
   formatted-map : view B formatted .map ≡ formatMap B
   unfolding formatStores
   formatted-map =
       view-map B formatted
-      ∙ stored-at B (store 0 (formatHead B label) ∷ []) (store 1 (formatMap B)) (store 2 (zeros B) ∷ []) img format-fits (omega arith, tt)
+      ∙ stored-at B (store 0 (formatHead B label) ∷ []) (store 1 (formatMap B)) (store 2 (zeros B) ∷ []) img fits (omega arith, tt)
 
   formatted-dir : view B formatted .dir ≡ zeros B
   unfolding formatStores
   formatted-dir =
       view-dir B formatted
-      ∙ stored-at B (store 0 (formatHead B label) ∷ store 1 (formatMap B) ∷ []) (store 2 (zeros B)) [] img format-fits tt
+      ∙ stored-at B (store 0 (formatHead B label) ∷ store 1 (formatMap B) ∷ []) (store 2 (zeros B)) [] img fits tt
 
   formatted-free : (s : ℕ) → T (free (view B formatted) s)
   unfolding free

@@ -71,13 +71,13 @@ remove-core a true t = tt
 remove-core false false t = not-granted t
 remove-core true false t = not-granted t
 
-create-slot : (B : ℕ) (v : View) (nm : List ℕ) (sz : ℕ) → granted (createView B v nm sz) ≡ true → freeSlot B v < slots B
+pub create-slot : (B : ℕ) (v : View) (nm : List ℕ) (sz : ℕ) → granted (createView B v nm sz) ≡ true → freeSlot B v < slots B
 unfolding createView
 create-slot B v nm sz g =
     ltb→lt (freeSlot B v) (slots B)
     (create-core (nameAllowed nm) (ltb (maxSize B) sz) (ltb (slotOf B v nm) (slots B)) (ltb (freeSlot B v) (slots B)) (ltb (freeBlocks v) (1 + need B sz)) (getD (chosen B v sz) 0 0) g)
 
-remove-slot : (B : ℕ) (v : View) (nm : List ℕ) → granted (removeView B v nm) ≡ true → slotOf B v nm < slots B
+pub remove-slot : (B : ℕ) (v : View) (nm : List ℕ) → granted (removeView B v nm) ≡ true → slotOf B v nm < slots B
 unfolding removeView
 remove-slot B v nm g = ltb→lt (slotOf B v nm) (slots B) (remove-core (nameAllowed nm) (ltb (slotOf B v nm) (slots B)) g)
 
@@ -133,7 +133,7 @@ module _ (B : ℕ) (size : BlockSize B) (img : List ℕ) (long : 3 * B ≤ lengt
   length-dir : length (view B img .dir) ≡ B
   length-dir = ap length (view-dir B img) ∙ length-block B img 2 (omega arith)
 
-  three : 3 ≤ blocks B img
+  pub three : 3 ≤ blocks B img
   three = subst (λ (n : ℕ). 3 ≤ n) (view-n B img) (three-blocks B size img long)
 
   bits-past : (w : ℕ) (cs : List ℕ) → w < 2 → ((c : ℕ) → In c cs → c < blocks B img) → (b : ℕ) → blocks B img ≤ b → mapBit (setBits (view B img .map) w cs) b ≡ mapBit (block B img 1) b
