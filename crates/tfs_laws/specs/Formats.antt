@@ -55,6 +55,7 @@ zeros-free n s =
     all-zero (part (s * 20) 20 (zeros n))
     (λ i l. getD-part (s * 20) 20 (zeros n) i (omega (arith, length-take 20 (drop (s * 20) (zeros n)))) ∙ zeros-byte n (s * 20 + i))
 
+-- padding to n bytes gives n bytes
 pub length-pad : (n : ℕ) (l : List ℕ) → length (padTo n l) ≡ n
 length-pad n l = simp (length-append, length-take, length-replicate) (omega arith)
 
@@ -227,6 +228,7 @@ by-format B img label P short bad full =
     (λ u. subst P (sym (cond-no (not (labelAllowed label)) _ _ (yes-yes (labelAllowed label) u))) (full (nltb→le (length img) (3 * B) t) u))
     (λ u. subst P (sym (cond-yes (not (labelAllowed label)) _ _ u)) (bad u))))
 
+-- a refusal is no grant
 pub not-granted {ℓ} : {X : Type ℓ} → false ≡ true → X
 not-granted e = absurd (subst T (sym e) tt)
 

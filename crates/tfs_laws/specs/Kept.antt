@@ -38,9 +38,11 @@ pub record KeptLaw (B : ℕ) (img new : List ℕ) : Type 0 where
   -- "Bits from N on are ignored and kept"
   pub bits : (b : ℕ) → blocks B img ≤ b → mapBit (block B new 1) b ≡ mapBit (block B img 1) b
 
+-- an image that stays keeps all of it
 kept-same : (B : ℕ) (img : List ℕ) → KeptLaw B img img
 kept-same B img = record { head = refl; ends = λ i h. refl; bits = λ b h. refl }
 
+-- and so does a new one with the same view
 kept-view : (B : ℕ) (img new : List ℕ) → view B new ≡ view B img → KeptLaw B img new
 kept-view B img new e =
     record {
@@ -71,12 +73,14 @@ remove-core a true t = tt
 remove-core false false t = not-granted t
 remove-core true false t = not-granted t
 
+-- a granted create has a free slot
 pub create-slot : (B : ℕ) (v : View) (nm : List ℕ) (sz : ℕ) → granted (createView B v nm sz) ≡ true → freeSlot B v < slots B
 unfolding createView
 create-slot B v nm sz g =
     ltb→lt (freeSlot B v) (slots B)
     (create-core (nameAllowed nm) (ltb (maxSize B) sz) (ltb (slotOf B v nm) (slots B)) (ltb (freeSlot B v) (slots B)) (ltb (freeBlocks v) (1 + need B sz)) (getD (chosen B v sz) 0 0) g)
 
+-- a granted remove has the slot of its name
 pub remove-slot : (B : ℕ) (v : View) (nm : List ℕ) → granted (removeView B v nm) ≡ true → slotOf B v nm < slots B
 unfolding removeView
 remove-slot B v nm g = ltb→lt (slotOf B v nm) (slots B) (remove-core (nameAllowed nm) (ltb (slotOf B v nm) (slots B)) g)
@@ -133,6 +137,7 @@ module _ (B : ℕ) (size : BlockSize B) (img : List ℕ) (long : 3 * B ≤ lengt
   length-dir : length (view B img .dir) ≡ B
   length-dir = ap length (view-dir B img) ∙ length-block B img 2 (omega arith)
 
+  -- blocks 0 to 2 are of the volume
   pub three : 3 ≤ blocks B img
   three = subst (λ (n : ℕ). 3 ≤ n) (view-n B img) (three-blocks B size img long)
 
@@ -156,7 +161,7 @@ module _ (B : ℕ) (size : BlockSize B) (img : List ℕ) (long : 3 * B ≤ lengt
     ends-past i h =
         getD-with-after (s * 20) 20 e (view B img .dir) k slot-in i (omega arith) ∙ ap (λ (d : List ℕ). getD d i 0) (view-dir B img)
 
--- the end of two lists of stores
+-- two lists of stores, one after the other
 fits-append : (B len : ℕ) (xs ys : List Store) → Fits B len xs → Fits B len ys → Fits B len (xs ++ ys)
 fits-append B len [] ys f g = g
 fits-append B len (x ∷ xs) ys f g = (f .0, (f .1 .0, fits-append B len xs ys (f .1 .1) g))
@@ -216,6 +221,7 @@ module _ (B : ℕ) (size : BlockSize B) (img : List ℕ) (ok : Consistent B img)
       }
 
   module _ (nm : List ℕ) (l : slotOf B v nm < slots B) where
+    -- remove's stores are inside the volume
     pub remove-fits : Fits B end (removeStores B v nm)
     unfolding removeStores
     remove-fits = (
@@ -236,6 +242,7 @@ module _ (B : ℕ) (size : BlockSize B) (img : List ℕ) (ok : Consistent B img)
         (stored-first B (store 2 (setSlot (v .dir) (slotOf B v nm) (zeros 20))) (store 1 (setBits (v .map) 0 (fileClaims B v (slotOf B v nm))) ∷ []) img fits (omega arith, tt))
 
   module _ (nm : List ℕ) (sz s : ℕ) (l : s < slots B) where
+    -- what create stores after the content blocks
     abbrev lasts : ℕ → List ℕ → List Store
     lasts i bs = store i (inodeBlock B sz bs) ∷ store 1 (setBits (v .map) 1 (i ∷ bs)) ∷ store 2 (setSlot (v .dir) s (entry i nm)) ∷ []
 
@@ -294,15 +301,18 @@ module _ {B : ℕ} (size : BlockSize B) (img : List ℕ) where
   create-fits nm sz e l =
       place-fits B size img (sound-of e) nm sz (freeSlot B (view B img)) l (chosen B (view B img) sz) (chosen-inside B size img (sound-of e) sz)
 
+  -- create keeps what the layout says is kept
   pub create-kept : (nm : List ℕ) (sz : ℕ) → KeptLaw B img (create B img nm sz .image)
   unfolding createStores
   create-kept nm sz =
       by-create B img nm sz (KeptLaw B img) (kept-same B img)
       (λ e l. place-keeps B size img (sound-of e) nm sz (freeSlot B (view B img)) l (chosen B (view B img) sz) (chosen-inside B size img (sound-of e) sz))
 
+  -- so does remove
   pub remove-kept : (nm : List ℕ) → KeptLaw B img (remove B img nm .image)
   remove-kept nm = by-remove B img nm (KeptLaw B img) (kept-same B img) (λ e l. remove-keeps B size img (sound-of e) nm l)
 
+  -- and write
   pub write-kept : (h o : ℕ) (buf : List ℕ) → KeptLaw B img (write B img h o buf .image)
   unfolding request
   write-kept h o buf =

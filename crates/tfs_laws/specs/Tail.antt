@@ -78,6 +78,7 @@ module _ {B : ℕ} (size : BlockSize B) (img : List ℕ) where
             (λ p k d. omega (arith, place-inside B pos img ok (slotWith B (view B img) h) p k)));
       }
 
+  -- on every image, consistent or not
   pub tail-kept : TailKept B img
   tail-kept =
       record {
@@ -196,10 +197,12 @@ module _ {B : ℕ} (size : BlockSize B) (a b : List ℕ) (same : SameVolume B a 
       ∙ same .bytes (i * B + j) (omega (arith, after-block B i (blocks B a) h))
       ∙ sym (getD-part (i * B) B b j (omega arith)))
 
+  -- every block that a view holds lies below N
   pub view-same : 3 * B ≤ length a → view B a ≡ view B b
   unfolding view
   view-same h = viewN-same B (blocks B a) a b (three B size a h) block-same ∙ ap (λ (n : ℕ). viewN B n b) (same .n)
 
+  -- N tells whether an image is too short
   pub short-alike : tooShort B a ≡ tooShort B b
   unfolding tooShort
   short-alike =
@@ -211,6 +214,7 @@ module _ {B : ℕ} (size : BlockSize B) (a b : List ℕ) (same : SameVolume B a 
       short x y e h =
           elim (decLe (3 * B) (length x)) [ yes l ↦ absurd (omega (arith, long-enough B size x y e l)) | no l ↦ lt→ltb (length x) (3 * B) (omega arith) ]
 
+  -- one volume, one verdict
   pub check-alike : check B a ≡ check B b
   unfolding check tooShort
   check-alike =
@@ -362,6 +366,7 @@ module _ {B : ℕ} (size : BlockSize B) (a b : List ℕ) (same : SameVolume B a 
       still false true = refl
       still false false = refl
 
+  -- on every two images with one volume, consistent or not
   pub tail-unread : TailLaw B a b
   unfolding checkAnswer openAnswer create remove write listAnswer freeAnswer
   tail-unread =
