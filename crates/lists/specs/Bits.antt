@@ -56,6 +56,27 @@ bit-again n (suc k) v w h =
     let b : (withBit (n / 2) k v * 2 + n % 2) % 2 ≡ n % 2 = omega arith in
     rw (a, b, bit-again (n / 2) k v w h)
 
+-- two bits are set in whatever order
+pub bit-comm : (n k j v w : ℕ) → v < 2 → w < 2 → k ≢ j → withBit (withBit n k v) j w ≡ withBit (withBit n j w) k v
+unfolding withBit
+bit-comm n zero zero v w hv hw d = absurd (d refl)
+bit-comm n zero (suc j) v w hv hw d =
+    let a : (n / 2 * 2 + v) / 2 ≡ n / 2 = omega arith in
+    let b : (n / 2 * 2 + v) % 2 ≡ v = omega arith in
+    let c : (withBit (n / 2) j w * 2 + n % 2) / 2 ≡ withBit (n / 2) j w = half n (withBit (n / 2) j w) w in
+    rw (a, b, c)
+bit-comm n (suc k) zero v w hv hw d =
+    let a : (n / 2 * 2 + w) / 2 ≡ n / 2 = omega arith in
+    let b : (n / 2 * 2 + w) % 2 ≡ w = omega arith in
+    let c : (withBit (n / 2) k v * 2 + n % 2) / 2 ≡ withBit (n / 2) k v = half n (withBit (n / 2) k v) v in
+    rw (a, b, c)
+bit-comm n (suc k) (suc j) v w hv hw d =
+    let a : (withBit (n / 2) k v * 2 + n % 2) / 2 ≡ withBit (n / 2) k v = half n (withBit (n / 2) k v) v in
+    let b : (withBit (n / 2) k v * 2 + n % 2) % 2 ≡ n % 2 = omega arith in
+    let c : (withBit (n / 2) j w * 2 + n % 2) / 2 ≡ withBit (n / 2) j w = half n (withBit (n / 2) j w) w in
+    let e : (withBit (n / 2) j w * 2 + n % 2) % 2 ≡ n % 2 = omega arith in
+    rw (a, b, c, e, bit-comm (n / 2) k j v w hv hw (λ x. d (ap suc x)))
+
 -- a number of m bits stays one
 pub with-lt : (n k m v : ℕ) → v < 2 → k < m → n < 2 ^ m → withBit n k v < 2 ^ m
 unfolding withBit

@@ -3,7 +3,9 @@ use mathlib.Core.Path.{_≡_, refl, sym, ap, _∙_}
 use Prim.Native.Nat.{ℕ, zero, suc, _+_, _≤_, _<_}
 use mathlib.Core.List.{List, [], _∷_, _++_}
 use native.Mathlib.Omega.{arith}
+use native.Mathlib.Nat.{zero-add}
 use lib.ListN.{length, getD, replicate}
+use lib.Seq.{ext-getD}
 
 module _ {ℓ} {A : Type ℓ} where
   -- the d elements of f from index k on
@@ -37,3 +39,11 @@ module _ {ℓ} {A : Type ℓ} where
   pub table-more : (f : ℕ → A) (k d : ℕ) → table f k (suc d) ≡ table f k d ++ (f (k + d) ∷ [])
   table-more f k zero = ap (λ (n : ℕ). f n ∷ []) (omega arith)
   table-more f k (suc d) = ap (λ (l : List A). f k ∷ l) (table-more f (suc k) d ∙ ap (λ (n : ℕ). table f (suc k) d ++ (f n ∷ [])) (omega arith))
+
+  -- a list is the table of its elements
+  pub table-getD : (l : List A) (z : A) → table (λ i. getD l i z) 0 (length l) ≡ l
+  table-getD l z =
+      ext-getD z (table (λ i. getD l i z) 0 (length l)) l (length-table (λ i. getD l i z) 0 (length l))
+      (λ i h.
+      let k : i < length l = omega (arith, length-table (λ i. getD l i z) 0 (length l)) in
+      getD-table (λ i. getD l i z) 0 (length l) i z k ∙ ap (λ (j : ℕ). getD l j z) (zero-add i))

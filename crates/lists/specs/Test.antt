@@ -58,6 +58,10 @@ pub and-r : (a b : Bool) → T (a && b) → T b
 and-r true b t = t
 and-r false b t = absurd t
 
+pub no-and : (a b : Bool) → T (not a) → T (not (a && b))
+no-and true b t = absurd t
+no-and false b t = tt
+
 pub nor-of : (a b : Bool) → T (not a) → T (not b) → T (not (a || b))
 nor-of true b s t = s
 nor-of false b s t = t

@@ -8,8 +8,9 @@ use native.Mathlib.Omega.{arith}
 use native.Mathlib.Decide.{ℕ-discrete}
 use lib.ListN.{length, getD, set, length-set}
 use lib.Seq.{getD-set-same, getD-set-other, set-set, set-comm, set-getD}
-use lib.Dec.{T, eqb, eqb→eq}
-use Rattle.lists.specs.Bits.{bitOf, withBit, bit-same, bit-other, bit-stays, bit-again, bit-small}
+use lib.Dec.{T, eqb}
+use borrow.Author.Tests.{eqb-false}
+use Rattle.lists.specs.Bits.{bitOf, withBit, bit-same, bit-other, bit-stays, bit-again, bit-small, bit-comm}
 use Rattle.tfs_rules.specs.Layout.{mapByte, mapBit, setBit, setBits}
 
 digits : (c : ℕ) → c ≡ 32 * (c / 32) + 8 * (c % 32 / 8) + c % 8
@@ -35,9 +36,6 @@ length-setBit map b v = length-set map (mapByte b) (withBit (getD map (mapByte b
 pub length-setBits : (bs map : List ℕ) (v : ℕ) → length (setBits map v bs) ≡ length map
 length-setBits [] map v = refl
 length-setBits (b ∷ bs) map v = length-setBits bs (setBit map b v) v ∙ length-setBit map b v
-
-bit-test : ℕ → Bool
-bit-test v = eqb v 1
 
 module _ (map : List ℕ) (b v : ℕ) (h : mapByte b < length map) (two : v < 2) where
   abbrev new : ℕ
@@ -108,3 +106,68 @@ module _ (v : ℕ) (two : v < 2) where
         | yes j ↦ bits-set bs (setBit map b v) m′ c j
         | no j ↦ bits-kept bs (setBit map b v) m′ c j ∙ ⊎-elim (λ e. ap (mapBit (setBit map b v)) e ∙ bit-set map b v (m .0) two) (λ k. absurd (j k)) i
       ]
+
+-- ---- bits set and cleared again
+module _ (map : List ℕ) (b c v w : ℕ) (hb : mapByte b < length map) (hv : v < 2) (hw : w < 2) (d : b ≢ c) where
+  abbrev x : ℕ
+  x = getD map (mapByte b) 0
+
+  -- two blocks' bits are set in whatever order
+  pub setBit-comm : setBit (setBit map b v) c w ≡ setBit (setBit map c w) b v
+  unfolding setBit
+  setBit-comm =
+      elim (ℕ-discrete (mapByte b) (mapByte c)) [
+        | yes e ↦ subst (λ (m : ℕ).
+            set (set map (mapByte b) (withBit x (b % 8) v)) m (withBit (getD (set map (mapByte b) (withBit x (b % 8) v)) m 0) (c % 8) w)
+            ≡ set (set map m (withBit (getD map m 0) (c % 8) w)) (mapByte b) (withBit (getD (set map m (withBit (getD map m 0) (c % 8) w)) (mapByte b) 0) (b % 8) v)) e (here e)
+        | no e ↦ there e
+      ]
+    where
+      here : mapByte b ≡ mapByte c →
+          set (set map (mapByte b) (withBit x (b % 8) v)) (mapByte b) (withBit (getD (set map (mapByte b) (withBit x (b % 8) v)) (mapByte b) 0) (c % 8) w)
+          ≡ set (set map (mapByte b) (withBit x (c % 8) w)) (mapByte b) (withBit (getD (set map (mapByte b) (withBit x (c % 8) w)) (mapByte b) 0) (b % 8) v)
+      here e =
+          set-set map (mapByte b) (withBit x (b % 8) v) _
+          ∙ ap (λ (y : ℕ). set map (mapByte b) (withBit y (c % 8) w)) (getD-set-same map (mapByte b) (withBit x (b % 8) v) 0 hb)
+          ∙ ap (set map (mapByte b)) (bit-comm x (b % 8) (c % 8) v w hv hw (λ m. d (byte-bit b c e m)))
+          ∙ ap (λ (y : ℕ). set map (mapByte b) (withBit y (b % 8) v)) (sym (getD-set-same map (mapByte b) (withBit x (c % 8) w) 0 hb))
+          ∙ sym (set-set map (mapByte b) (withBit x (c % 8) w) _)
+
+      there : mapByte b ≢ mapByte c →
+          set (set map (mapByte b) (withBit x (b % 8) v)) (mapByte c) (withBit (getD (set map (mapByte b) (withBit x (b % 8) v)) (mapByte c) 0) (c % 8) w)
+          ≡ set (set map (mapByte c) (withBit (getD map (mapByte c) 0) (c % 8) w)) (mapByte b) (withBit (getD (set map (mapByte c) (withBit (getD map (mapByte c) 0) (c % 8) w)) (mapByte b) 0) (b % 8) v)
+      there e =
+          ap (λ (y : ℕ). set (set map (mapByte b) (withBit x (b % 8) v)) (mapByte c) (withBit y (c % 8) w)) (getD-set-other map (mapByte b) (mapByte c) (withBit x (b % 8) v) 0 (λ z. e (sym z)))
+          ∙ set-comm map (mapByte b) (mapByte c) (withBit x (b % 8) v) (withBit (getD map (mapByte c) 0) (c % 8) w) e
+          ∙ ap (λ (y : ℕ). set (set map (mapByte c) (withBit (getD map (mapByte c) 0) (c % 8) w)) (mapByte b) (withBit y (b % 8) v)) (sym (getD-set-other map (mapByte c) (mapByte b) (withBit (getD map (mapByte c) 0) (c % 8) w) 0 e))
+
+-- a clear bit set and cleared
+pub setBit-undo : (map : List ℕ) (b : ℕ) → mapByte b < length map → mapBit map b ≡ false → setBit (setBit map b 1) b 0 ≡ map
+unfolding setBit mapBit
+setBit-undo map b h e =
+    let y : ℕ = getD map (mapByte b) 0 in
+    let zero-bit : bitOf (getD map (mapByte b) 0) (b % 8) ≡ 0 = omega (arith, bit-small (getD map (mapByte b) 0) (b % 8), eqb-false (bitOf (getD map (mapByte b) 0) (b % 8)) 1 e) in
+    set-set map (mapByte b) (withBit (getD map (mapByte b) 0) (b % 8) 1) _
+    ∙ ap (λ (q : ℕ). set map (mapByte b) (withBit q (b % 8) 0)) (getD-set-same map (mapByte b) (withBit (getD map (mapByte b) 0) (b % 8) 1) 0 h)
+    ∙ ap (set map (mapByte b)) (bit-again (getD map (mapByte b) 0) (b % 8) 1 0 (omega arith) ∙ ap (withBit (getD map (mapByte b) 0) (b % 8)) (sym zero-bit) ∙ bit-stays (getD map (mapByte b) 0) (b % 8))
+    ∙ set-getD map (mapByte b) 0
+
+setBits-comm : (bs map : List ℕ) (b v w : ℕ) → mapByte b < length map → v < 2 → w < 2 → (In b bs → ⊥) → setBit (setBits map v bs) b w ≡ setBits (setBit map b w) v bs
+setBits-comm [] map b v w h hv hw d = refl
+setBits-comm (c ∷ bs) map b v w h hv hw d =
+    setBits-comm bs (setBit map c v) b v w (subst (λ (n : ℕ). mapByte b < n) (sym (length-setBit map c v)) h) hv hw (λ i. d (inr i))
+    ∙ ap (λ (m : List ℕ). setBits m v bs) (sym (setBit-comm map b c w v h hw hv (λ e. d (inl e))))
+
+-- each block once
+abbrev pub Distinct : List ℕ → Type 0
+Distinct [] = Unit {0}
+Distinct (b ∷ bs) = (In b bs → ⊥) × Distinct bs
+
+-- clear bits set and cleared: the map is back, byte for byte
+pub setBits-undo : (bs map : List ℕ) → Distinct bs → Mapped (length map) bs → ((b : ℕ) → In b bs → mapBit map b ≡ false) → setBits (setBits map 1 bs) 0 bs ≡ map
+setBits-undo [] map d m h = refl
+setBits-undo (b ∷ bs) map d m h =
+    ap (λ (x : List ℕ). setBits x 0 bs)
+    (setBits-comm bs (setBit map b 1) b 1 0 (subst (λ (n : ℕ). mapByte b < n) (sym (length-setBit map b 1)) (m .0)) (omega arith) (omega arith) (d .0)
+    ∙ ap (λ (x : List ℕ). setBits x 1 bs) (setBit-undo map b (m .0) (h b (inl refl))))
+    ∙ setBits-undo bs map (d .1) (m .1) (λ c i. h c (inr i))

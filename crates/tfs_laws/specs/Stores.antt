@@ -29,11 +29,14 @@ pub length-block : (B : ℕ) (img : List ℕ) (b : ℕ) → b * B + B ≤ length
 unfolding block
 length-block B img b h = length-part (b * B) B img h
 
--- a byte of a block that is the same in two images
-pub block-byte : (B : ℕ) (a c : List ℕ) (b r : ℕ) → r < B → block B a b ≡ block B c b → getD a (b * B + r) 0 ≡ getD c (b * B + r) 0
+-- a byte of a block
+pub byte-at : (B : ℕ) (img : List ℕ) (b r : ℕ) → r < B → getD img (b * B + r) 0 ≡ getD (block B img b) r 0
 unfolding block
-block-byte B a c b r h e =
-    sym (getD-part (b * B) B a r h) ∙ ap (λ (x : List ℕ). getD x r 0) e ∙ getD-part (b * B) B c r h
+byte-at B img b r h = sym (getD-part (b * B) B img r h)
+
+-- of a block that is the same in two images
+pub block-byte : (B : ℕ) (a c : List ℕ) (b r : ℕ) → r < B → block B a b ≡ block B c b → getD a (b * B + r) 0 ≡ getD c (b * B + r) 0
+block-byte B a c b r h e = byte-at B a b r h ∙ ap (λ (x : List ℕ). getD x r 0) e ∙ sym (byte-at B c b r h)
 
 -- ---- stores in order
 -- each store is a whole block inside the image

@@ -23,7 +23,7 @@ zero-bytes [] t i = refl
 zero-bytes (x ∷ xs) t zero = eqb→eq x 0 (and-l (eqb x 0) (allZero xs) t)
 zero-bytes (x ∷ xs) t (suc i) = zero-bytes xs (and-r (eqb x 0) (allZero xs) t) i
 
-zero-word : (l : List ℕ) (p : ℕ) → T (allZero l) → word l p ≡ 0
+pub zero-word : (l : List ℕ) (p : ℕ) → T (allZero l) → word l p ≡ 0
 unfolding word
 zero-word l p t =
     omega (arith, zero-bytes l t p, zero-bytes l t (p + 1), zero-bytes l t (p + 2), zero-bytes l t (p + 3))

@@ -1,0 +1,226 @@
+-- The starred cases: what the definitions give on them, in one table, and that it is the table written out.
+use mathlib.Core.Path.{_≡_, refl, ap, _∙_}
+use mathlib.Core.Bool.{false}
+use Prim.Native.Nat.{ℕ, _*_, _≤_, _<_}
+use native.Mathlib.Omega.{arith}
+use mathlib.Core.List.{List, [], _∷_}
+use lib.ListN.{length}
+use lib.Dec.{ltb, ltb→lt, lit<, lit≤}
+use Rattle.lists.specs.Test.{to-false}
+use Rattle.lists.specs.Least.{least}
+use Rattle.lists.specs.Sum.{sum}
+use Rattle.lists.specs.Name.{zeros, zeroAt, firstZero, upToZero}
+use Rattle.lists.specs.Word.{word}
+use Rattle.lists.specs.Bits.{bitOf, withBit}
+use Rattle.lists.specs.Part.{part, withPart, length-with}
+use Rattle.tfs_rules.specs.Layout.{need, blocks, block, setBlock, mapBit, setBit, slot, setSlot, slotInode, slotName, slotFree, nameFormed, slotUsed, sameName, entry, inodeSize, inodeNumber, inodeBlock, labelAllowed, nameAllowed}
+use Rattle.tfs_rules.specs.View.{inodeAt, viewN, view, free, used, inode, name, size, number, slotOf, slotWith, freeSlot, freeBlocks}
+use Rattle.tfs_rules.specs.Check.{consistent, tooShort, badMagic, badLabel, repeats, badSlot, badNumber, badInode, fileClaims, claimsTo, claims, checkView, check}
+use Rattle.tfs_rules.specs.Requests.{Answer, done, value, unused, file, refused, Outcome, Store, storeAll, formatStores, format, freeFrom, chosen, placeStores, createStores, createView, stored, create, counted, transferView, read, write, freeAnswer}
+
+-- the names, as bytes
+abbrev PUMP : List ℕ
+PUMP = 0x50 ∷ 0x55 ∷ 0x4D ∷ 0x50 ∷ []
+
+abbrev TIMING : List ℕ
+TIMING = 0x54 ∷ 0x49 ∷ 0x4D ∷ 0x49 ∷ 0x4E ∷ 0x47 ∷ []
+
+-- an answer as a row of the table
+abbrev pub code : Answer → List ℕ
+code done = 0 ∷ []
+code (value x) = 1 ∷ x ∷ []
+code unused = 2 ∷ []
+code (file nm i z) = 3 ∷ i ∷ z ∷ nm
+code (refused num p) = 4 ∷ num ∷ p ∷ []
+
+-- what the definitions give: an image of 128 blocks, one of 131 and one of 130, a buffer to read into and one to write from
+unfoldable pub table : (img a b into from : List ℕ) → List (List ℕ)
+table img a b into from =
+    let f : Outcome = format 512 img PUMP in
+    let c : Outcome = create 512 (f .image) TIMING 1000 in
+    -- format 65,536 bytes as "PUMP": blocks 0 and 1, free bytes
+    code (f .answer)
+    ∷ block 512 (f .image) 0
+    ∷ block 512 (f .image) 1
+    ∷ code (freeAnswer 512 (f .image))
+    -- then create "TIMING", 1,000: handle, map, slot 0, inode, free bytes
+    ∷ code (c .answer)
+    ∷ block 512 (c .image) 1
+    ∷ slot (block 512 (c .image) 2) 0
+    ∷ block 512 (c .image) 3
+    ∷ code (freeAnswer 512 (c .image))
+    -- read 200 at 900, 1,000 and 1,001; write 30 at 990
+    ∷ code (read 512 (c .image) 3 900 into .answer)
+    ∷ code (read 512 (c .image) 3 1000 into .answer)
+    ∷ code (read 512 (c .image) 3 1001 into .answer)
+    ∷ code (write 512 (c .image) 3 990 from .answer)
+    -- blocks 31 and 32 in a map
+    ∷ setBit (zeros 512) 31 1
+    ∷ setBit (zeros 512) 32 1
+    -- create 65,024 in an empty volume, N = 131 and N = 130
+    ∷ code (create 512 (format 512 a PUMP .image) TIMING 65024 .answer)
+    ∷ code (create 512 (format 512 b PUMP .image) TIMING 65024 .answer)
+    ∷ []
+
+-- the same rows written out
+unfoldable pub expected : List (List ℕ)
+expected =
+    code done
+    ∷ (0x00 ∷ 0x00 ∷ 0x0E ∷ 0xA1 ∷ 0x50 ∷ 0x55 ∷ 0x4D ∷ 0x50 ∷ zeros 504)
+    ∷ (0x00 ∷ 0x00 ∷ 0x00 ∷ 0x07 ∷ zeros 508)
+    ∷ code (value 64000)
+    ∷ code (value 3)
+    ∷ (0x00 ∷ 0x00 ∷ 0x00 ∷ 0x3F ∷ zeros 508)
+    ∷ (0x00 ∷ 0x00 ∷ 0x00 ∷ 0x03 ∷ 0x54 ∷ 0x49 ∷ 0x4D ∷ 0x49 ∷ 0x4E ∷ 0x47 ∷ zeros 10)
+    ∷ (0x00 ∷ 0x00 ∷ 0x03 ∷ 0xE8 ∷ 0x00 ∷ 0x00 ∷ 0x00 ∷ 0x04 ∷ 0x00 ∷ 0x00 ∷ 0x00 ∷ 0x05 ∷ zeros 500)
+    ∷ code (value 62464)
+    ∷ code (value 100)
+    ∷ code (value 0)
+    ∷ code (refused 15 0)
+    ∷ code (value 10)
+    ∷ (0x80 ∷ zeros 511)
+    ∷ (0x00 ∷ 0x00 ∷ 0x00 ∷ 0x00 ∷ 0x00 ∷ 0x00 ∷ 0x00 ∷ 0x01 ∷ zeros 504)
+    ∷ code (value 3)
+    ∷ code (refused 12 0)
+    ∷ []
+
+-- ---- the images after format and create
+formatted : List ℕ → List ℕ
+formatted img = storeAll 512 img (formatStores 512 PUMP)
+
+made : List ℕ → List ℕ
+made img = storeAll 512 (formatted img) (createStores 512 (viewN 512 128 (formatted img)) TIMING 1000)
+
+-- the definitions that are computed on them: `unfolding computing` opens them all
+computing : Unit {0}
+unfolding least sum zeroAt firstZero upToZero word bitOf withBit part withPart need block setBlock mapBit setBit slot setSlot slotInode slotName slotFree nameFormed slotUsed sameName entry inodeSize inodeNumber inodeBlock labelAllowed nameAllowed inodeAt viewN free used inode name size number slotOf slotWith freeSlot freeBlocks badMagic badLabel repeats badSlot badNumber badInode fileClaims claimsTo claims checkView formatStores freeFrom chosen placeStores createStores createView counted transferView formatted made
+computing = tt
+
+-- ---- an image of n blocks, and such a volume
+record Image (n : ℕ) (img : List ℕ) : Type 0 where
+  low : 3 ≤ n
+  high : n ≤ 4096
+  whole : length img ≡ n * 512
+
+record Volume (n : ℕ) (img : List ℕ) : Type 0 where
+  image : Image n img
+  sound : checkView 512 (viewN 512 n img) ≡ consistent
+
+module _ {n : ℕ} {img : List ℕ} (g : Image n img) where
+  blocks-are : blocks 512 img ≡ n
+  unfolding blocks
+  blocks-are = omega arith
+
+  long : tooShort 512 img ≡ false
+  unfolding tooShort
+  long = to-false (ltb (length img) 1536) (λ t. omega (arith, ltb→lt (length img) 1536 t))
+
+  format-is : format 512 img PUMP ≡ record { answer = done; image = formatted img }
+  unfolding format computing
+  format-is = rw long
+
+-- the requests on a volume
+module _ {n : ℕ} {img : List ℕ} (v : Volume n img) where
+  passes : check 512 img ≡ consistent
+  unfolding check view
+  passes = rw (long (v .image), blocks-are (v .image)) (v .sound)
+
+  create-is : (nm : List ℕ) (sz : ℕ) → create 512 img nm sz ≡ stored 512 img (createView 512 (viewN 512 n img) nm sz) (createStores 512 (viewN 512 n img) nm sz)
+  unfolding create view
+  create-is nm sz = rw (passes, blocks-are (v .image))
+
+  read-is : (h o k : ℕ) (buf : List ℕ) → length buf ≡ k → read 512 img h o buf .answer ≡ transferView 512 (viewN 512 n img) h o k
+  unfolding read view
+  read-is h o k buf e = rw (passes, blocks-are (v .image), e)
+
+  write-is : (h o k : ℕ) (buf : List ℕ) → length buf ≡ k → write 512 img h o buf .answer ≡ transferView 512 (viewN 512 n img) h o k
+  unfolding write view
+  write-is h o k buf e = rw (passes, blocks-are (v .image), e)
+
+  free-is : freeAnswer 512 img ≡ value (512 * freeBlocks (viewN 512 n img))
+  unfolding freeAnswer view
+  free-is = rw (passes, blocks-are (v .image))
+
+-- ---- stores of whole blocks below n
+abbrev Blocks : ℕ → List Store → Type 0
+Blocks n [] = Unit {0}
+Blocks n (x ∷ xs) = (x .at < n) × (length (x .bytes) ≡ 512) × Blocks n xs
+
+image-stored : {n : ℕ} (img : List ℕ) (xs : List Store) → Image n img → Blocks n xs → Image n (storeAll 512 img xs)
+unfolding setBlock
+image-stored img [] g w = g
+image-stored img (x ∷ xs) g w =
+    image-stored (setBlock 512 img (x .at) (x .bytes)) xs
+    (record {
+      low = g .low;
+      high = g .high;
+      whole = length-with (x .at * 512) 512 (x .bytes) img (w .1) (omega (arith, w .0)) ∙ g .whole;
+    })
+    (w .2)
+
+-- ---- the volume just formatted
+module _ {n : ℕ} {img : List ℕ} (g : Image n img) where
+  image-formatted : Image n (formatted img)
+  unfolding computing
+  image-formatted = image-stored img (formatStores 512 PUMP) g (omega arith, refl {a = 512}, (omega arith, refl {a = 512}, (omega arith, refl {a = 512}, tt)))
+
+  -- where it passes the check: free bytes and create
+  module _ (ok : checkView 512 (viewN 512 n (formatted img)) ≡ consistent) where
+    empty : Volume n (formatted img)
+    empty = record { image = image-formatted; sound = ok }
+
+    free-empty : freeAnswer 512 (format 512 img PUMP .image) ≡ value (512 * freeBlocks (viewN 512 n (formatted img)))
+    free-empty = ap (λ (f : Outcome). freeAnswer 512 (f .image)) (format-is g) ∙ free-is empty
+
+    created : (sz : ℕ) → create 512 (format 512 img PUMP .image) TIMING sz ≡ stored 512 (formatted img) (createView 512 (viewN 512 n (formatted img)) TIMING sz) (createStores 512 (viewN 512 n (formatted img)) TIMING sz)
+    created sz = ap (λ (f : Outcome). create 512 (f .image) TIMING sz) (format-is g) ∙ create-is empty TIMING sz
+
+-- ---- the volume with the file
+module _ {img : List ℕ} (g : Image 128 img) where
+  is-made : create 512 (format 512 img PUMP .image) TIMING 1000 ≡ record { answer = value 3; image = made img }
+  unfolding computing
+  is-made = created g refl 1000
+
+  filled : Volume 128 (made img)
+  unfolding computing
+  filled = record {
+    image = image-stored (formatted img) (createStores 512 (viewN 512 128 (formatted img)) TIMING 1000) (image-formatted g)
+        (lit< tt, refl {a = 512}, (lit< tt, refl {a = 512}, (lit< tt, refl {a = 512}, (lit< tt, refl {a = 512}, (lit< tt, refl {a = 512}, tt)))));
+    sound = refl;
+  }
+
+  free-made : freeAnswer 512 (create 512 (format 512 img PUMP .image) TIMING 1000 .image) ≡ value (512 * freeBlocks (viewN 512 128 (made img)))
+  free-made = ap (λ (c : Outcome). freeAnswer 512 (c .image)) is-made ∙ free-is filled
+
+  read-made : (o k : ℕ) (buf : List ℕ) → length buf ≡ k → read 512 (create 512 (format 512 img PUMP .image) TIMING 1000 .image) 3 o buf .answer ≡ transferView 512 (viewN 512 128 (made img)) 3 o k
+  read-made o k buf e = ap (λ (c : Outcome). read 512 (c .image) 3 o buf .answer) is-made ∙ read-is filled 3 o k buf e
+
+  write-made : (o k : ℕ) (buf : List ℕ) → length buf ≡ k → write 512 (create 512 (format 512 img PUMP .image) TIMING 1000 .image) 3 o buf .answer ≡ transferView 512 (viewN 512 128 (made img)) 3 o k
+  write-made o k buf e = ap (λ (c : Outcome). write 512 (c .image) 3 o buf .answer) is-made ∙ write-is filled 3 o k buf e
+
+-- every row of the table at once, for any images and buffers of these lengths
+pub starred : (img a b into from : List ℕ) → length img ≡ 65536 → length a ≡ 67072 → length b ≡ 66560 → length into ≡ 200 → length from ≡ 30 → table img a b into from ≡ expected
+unfolding table expected computing
+starred img a b into from len len-a len-b len-into len-from =
+    let g : Image 128 img = record { low = lit≤ tt; high = lit≤ tt; whole = len } in
+    let g-a : Image 131 a = record { low = lit≤ tt; high = lit≤ tt; whole = len-a } in
+    let g-b : Image 130 b = record { low = lit≤ tt; high = lit≤ tt; whole = len-b } in
+    λ i.
+    code (format-is g i .answer)
+    ∷ block 512 (format-is g i .image) 0
+    ∷ block 512 (format-is g i .image) 1
+    ∷ code (free-empty g refl i)
+    ∷ code (is-made g i .answer)
+    ∷ block 512 (is-made g i .image) 1
+    ∷ slot (block 512 (is-made g i .image) 2) 0
+    ∷ block 512 (is-made g i .image) 3
+    ∷ code (free-made g i)
+    ∷ code (read-made g 900 200 into len-into i)
+    ∷ code (read-made g 1000 200 into len-into i)
+    ∷ code (read-made g 1001 200 into len-into i)
+    ∷ code (write-made g 990 30 from len-from i)
+    ∷ setBit (zeros 512) 31 1
+    ∷ setBit (zeros 512) 32 1
+    ∷ code (created g-a refl 65024 i .answer)
+    ∷ code (created g-b refl 65024 i .answer)
+    ∷ []

@@ -1,0 +1,166 @@
+-- The requests that change a volume, as one kind: consistency after each, and the change of the plain view that each is.
+use mathlib.Core.Path.{_≡_, refl, sym, ap, ap₂, _∙_, subst, fun-ext}
+use mathlib.Core.Logic.{_≢_}
+use mathlib.Core.Bool.{Bool, true, false, not, cond, _&&_}
+use Prim.Native.Nat.{ℕ, zero, suc, _+_, _-_, _*_, _≤_, _<_}
+use mathlib.Core.List.{List, [], _∷_, _++_}
+use mathlib.Core.Option.{Option, none, some}
+use native.Mathlib.Omega.{arith}
+use lib.ListN.{length}
+use lib.Dec.{T, ltb, ltb→lt}
+use Rattle.lists.specs.Test.{not-not, to-true, by-test, cond-no}
+use Rattle.tfs_rules.specs.Layout.{BlockSize, slots, sameName}
+use Rattle.tfs_rules.specs.View.{View, view, inode, name, size, slotOf, slotWith, contents, Contents}
+use Rattle.tfs_rules.specs.Check.{Verdict, consistent, broken, check}
+use Rattle.tfs_rules.specs.Consistent.{File, Sound, Consistent}
+use Rattle.tfs_rules.specs.CheckMeans.{check-means}
+use Rattle.tfs_rules.specs.Requests.{Answer, value, refused, granted, Outcome, checkedOutcome, stored, storeAll, createView, createStores, create, removeView, removeStores, remove, transferView, write}
+use Rattle.tfs_laws.specs.Views.{view-head}
+use Rattle.tfs_laws.specs.Writes.{Put, put, step}
+use Rattle.tfs_laws.specs.Places.{filesOf}
+use Rattle.tfs_laws.specs.WriteLists.{wr, request, putOf, request-answer, request-image, request-view, request-length, request-sound}
+use Rattle.tfs_laws.specs.Names.{handle-hit}
+use Rattle.tfs_laws.specs.Others.{consistent-to}
+use Rattle.tfs_laws.specs.Creates.{CreateGrant, grant-step, create-grant, create-consistent, create-contents}
+use Rattle.tfs_laws.specs.Removes.{remove-consistent, remove-contents}
+use Rattle.tfs_laws.specs.WriteContents.{write-contents}
+use Rattle.tfs_laws.specs.Ledger.{change, made, gone, wrote}
+
+pub data Change : Type 0 where
+  -- name and size
+  creates : List ℕ → ℕ → Change
+  -- name
+  removes : List ℕ → Change
+  -- handle, offset and bytes
+  writes : ℕ → ℕ → List ℕ → Change
+
+unfoldable pub perform : ℕ → List ℕ → Change → Outcome
+perform B img (creates nm z) = create B img nm z
+perform B img (removes nm) = remove B img nm
+perform B img (writes h o bs) = write B img h o bs
+
+-- the name that a request is on; "a write's name is that of the file its handle means"
+unfoldable pub nameOn : ℕ → View → Change → List ℕ
+nameOn B v (creates nm z) = nm
+nameOn B v (removes nm) = nm
+nameOn B v (writes h o bs) = name v (slotWith B v h)
+
+-- what a granted request makes of what stands under its name
+abbrev pub effectOf : Change → Option (List ℕ) → Option (List ℕ)
+effectOf (creates nm z) = made z
+effectOf (removes nm) = gone
+effectOf (writes h o bs) = wrote o bs
+
+-- ---- a granted request on a consistent volume
+abbrev pub Passed : ℕ → List ℕ → Type 0
+Passed B img = check B img ≡ consistent
+
+module _ (B : ℕ) (img : List ℕ) (passed : Passed B img) where
+  pub create-is : (nm : List ℕ) (z : ℕ) → create B img nm z ≡ stored B img (createView B (view B img) nm z) (createStores B (view B img) nm z)
+  unfolding create
+  create-is nm z = rw passed
+
+  pub remove-is : (nm : List ℕ) → remove B img nm ≡ stored B img (removeView B (view B img) nm) (removeStores B (view B img) nm)
+  unfolding remove
+  remove-is nm = rw passed
+
+  pub create-image : (nm : List ℕ) (z : ℕ) → T (granted (create B img nm z .answer)) → create B img nm z .image ≡ storeAll B img (createStores B (view B img) nm z)
+  create-image nm z g =
+      let t : T (granted (createView B (view B img) nm z)) = subst (λ (o : Outcome). T (granted (o .answer))) (create-is nm z) g in
+      ap (λ (o : Outcome). o .image) (create-is nm z)
+      ∙ ap (λ (b : Bool). cond b (storeAll B img (createStores B (view B img) nm z)) img) (to-true (granted (createView B (view B img) nm z)) t)
+
+  pub remove-image : (nm : List ℕ) → T (granted (remove B img nm .answer)) → remove B img nm .image ≡ storeAll B img (removeStores B (view B img) nm)
+  remove-image nm g =
+      let t : T (granted (removeView B (view B img) nm)) = subst (λ (o : Outcome). T (granted (o .answer))) (remove-is nm) g in
+      ap (λ (o : Outcome). o .image) (remove-is nm)
+      ∙ ap (λ (b : Bool). cond b (storeAll B img (removeStores B (view B img) nm)) img) (to-true (granted (removeView B (view B img) nm)) t)
+
+  pub create-granted : (nm : List ℕ) (z : ℕ) → T (granted (create B img nm z .answer)) → CreateGrant B (view B img) nm z
+  create-granted nm z g =
+      create-grant B (view B img) nm z (subst (λ (o : Outcome). T (granted (o .answer))) (create-is nm z) g)
+
+  pub remove-granted : (nm : List ℕ) → T (granted (remove B img nm .answer)) → slotOf B (view B img) nm < slots B
+  unfolding removeView
+  remove-granted nm g =
+      let t : T (granted (removeView B (view B img) nm)) = subst (λ (o : Outcome). T (granted (o .answer))) (remove-is nm) g in
+      let g8 = grant-step (not (Rattle.tfs_rules.specs.Layout.nameAllowed nm)) 8 _ t in
+      let g13 = grant-step (not (ltb (slotOf B (view B img) nm) (slots B))) 13 _ (g8 .1) in
+      ltb→lt (slotOf B (view B img) nm) (slots B) (not-not (ltb (slotOf B (view B img) nm) (slots B)) (g13 .0))
+
+  pub write-granted : (h o : ℕ) (bs : List ℕ) → T (granted (write B img h o bs .answer)) → slotWith B (view B img) h < slots B
+  unfolding transferView request
+  write-granted h o bs g =
+      let t : T (granted (transferView B (view B img) h o (length bs))) = subst (λ (a : Answer). T (granted a)) (request-answer B img passed (wr h o bs)) g in
+      let g14 = grant-step (not (ltb (slotWith B (view B img) h) (slots B))) 14 _ t in
+      ltb→lt (slotWith B (view B img) h) (slots B) (not-not (ltb (slotWith B (view B img) h) (slots B)) (g14 .0))
+
+-- "A refused request changes no byte of the image"
+refused-core : (f : Verdict) (img new : List ℕ) (a : Answer) → T (not (granted (checkedOutcome f img (record { answer = a; image = cond (granted a) new img }) .answer))) → checkedOutcome f img (record { answer = a; image = cond (granted a) new img }) .image ≡ img
+refused-core consistent img new a t = cond-no (granted a) new img t
+refused-core (broken num q) img new a t = refl
+
+pub refused-keeps : (B : ℕ) (img : List ℕ) (c : Change) → T (not (granted (perform B img c .answer))) → perform B img c .image ≡ img
+unfolding perform create remove write
+refused-keeps B img (creates nm z) t = refused-core (check B img) img _ (createView B (view B img) nm z) t
+refused-keeps B img (removes nm) t = refused-core (check B img) img _ (removeView B (view B img) nm) t
+refused-keeps B img (writes h o bs) t = refused-core (check B img) img _ (transferView B (view B img) h o (length bs)) t
+
+-- what a granted request does
+pub record Changed (B : ℕ) (img : List ℕ) (c : Change) : Type 0 where
+  -- "The volume stays consistent"
+  pub consistent : Consistent B (perform B img c .image)
+  -- "with the effect they give and no other": one name changes, every other keeps its size and bytes
+  pub contents : (j : List ℕ) → contents B (perform B img c .image) j ≡ change (nameOn B (view B img) c) (effectOf c) (contents B img) j
+
+module _ (B : ℕ) (sz : BlockSize B) where
+  pos : 0 < B
+  pos = omega (arith, sz .large)
+
+  module _ (img : List ℕ) (ok : Consistent B img) (h o : ℕ) (bs : List ℕ) where
+    p : Passed B img
+    p = check-means B sz img .1 ok
+
+    -- a write, granted or refused, leaves a consistent volume
+    pub write-consistent : Consistent B (write B img h o bs .image)
+    unfolding request
+    write-consistent =
+        consistent-to B img (write B img h o bs .image) ok
+        (request-length B pos img p (ok .sound) (wr h o bs))
+        (sym (view-head B (write B img h o bs .image)) ∙ ap (λ (v : View). v .head) (request-view B pos img p (ok .sound) (wr h o bs)) ∙ view-head B img)
+        (request-sound B pos img p (ok .sound) (wr h o bs))
+
+    pub write-changes : T (granted (write B img h o bs .answer)) → (j : List ℕ) → contents B (write B img h o bs .image) j ≡ change (name (view B img) (slotWith B (view B img) h)) (wrote o bs) (contents B img) j
+    unfolding request putOf
+    write-changes g j =
+        let hit : slotWith B (view B img) h < slots B = write-granted B img p h o bs g in
+        ap (λ (x : List ℕ). contents B x j) (request-image B img p (wr h o bs))
+        ∙ write-contents B pos img (ok .sound) (slotWith B (view B img) h) (handle-hit B (view B img) h hit .0) o bs j
+
+  pub changed : (img : List ℕ) → Consistent B img → (c : Change) → T (granted (perform B img c .answer)) → Changed B img c
+  unfolding perform nameOn
+  changed img ok (creates nm z) g =
+      let p : Passed B img = check-means B sz img .1 ok in
+      let gr : CreateGrant B (view B img) nm z = create-granted B img p nm z g in
+      let e : create B img nm z .image ≡ storeAll B img (createStores B (view B img) nm z) = create-image B img p nm z g in
+      record {
+        consistent = subst (Consistent B) (sym e) (create-consistent B sz img ok nm z gr);
+        contents = λ j. (ap (λ (x : List ℕ). contents B x j) e ∙ create-contents B sz img ok nm z gr j);
+      }
+  changed img ok (removes nm) g =
+      let p : Passed B img = check-means B sz img .1 ok in
+      let hit : slotOf B (view B img) nm < slots B = remove-granted B img p nm g in
+      let e : remove B img nm .image ≡ storeAll B img (removeStores B (view B img) nm) = remove-image B img p nm g in
+      record {
+        consistent = subst (Consistent B) (sym e) (remove-consistent B sz img ok nm hit);
+        contents = λ j. (ap (λ (x : List ℕ). contents B x j) e ∙ remove-contents B sz img ok nm hit j);
+      }
+  changed img ok (writes h o bs) g =
+      record { consistent = write-consistent img ok h o bs; contents = write-changes img ok h o bs g }
+
+  -- "The volume stays consistent", whatever is asked
+  pub stays-consistent : (img : List ℕ) → Consistent B img → (c : Change) → Consistent B (perform B img c .image)
+  stays-consistent img ok c =
+      by-test (granted (perform B img c .answer))
+      (λ t. changed img ok c t .consistent)
+      (λ t. subst (Consistent B) (sym (refused-keeps B img c t)) ok)

@@ -1,0 +1,138 @@
+-- What create writes is read back: a directory entry, and an inode.
+use mathlib.Core.Path.{_≡_, refl, sym, ap, ap₂, _∙_, subst}
+use mathlib.Core.Logic.{_≢_}
+use mathlib.Core.Bool.{Bool, true, false, not, cond, _&&_}
+use Prim.Native.Nat.{ℕ, zero, suc, _+_, _-_, _*_, _/_, _%_, _≤_, _<_, min}
+use mathlib.Core.List.{List, [], _∷_, _++_}
+use native.Mathlib.Omega.{arith}
+use lib.ListN.{length, getD, take, drop, length-append, length-take, length-replicate, List·getD-append, getD-replicate, List·getD-eq-default}
+use lib.Seq.{take-all, take-at, drop-at, getD-append-add}
+use lib.Dec.{T, leb, ltb, eqb, leb→le, ltb→lt, eqb→eq, le→leb, lt→ltb, T-not, not-T}
+use Rattle.lists.specs.Test.{allZero, and-of, and-l, and-r, eqb-of, neqb-of}
+use Rattle.lists.specs.Least.{least, least-is, least-below}
+use Rattle.lists.specs.Name.{zeros, zeroAt, firstZero, upToZero, padTo}
+use Rattle.lists.specs.Word.{word, bytes4, words, length-words, words-at, word-bytes4, word-skip}
+use Rattle.lists.specs.Part.{part}
+use Rattle.tfs_rules.specs.Layout.{slotInode, nameField, slotName, slotFree, slotUsed, nameFormed, inRange, entry, inodeSize, inodeNumber, inodeBlock, labelAllowed, nameAllowed}
+use Rattle.tfs_laws.specs.Views.{zero-bytes, zero-word}
+
+pub length-pad : (n : ℕ) (l : List ℕ) → length (padTo n l) ≡ n
+length-pad n l = simp (length-append, length-take, length-replicate) (omega arith)
+
+pub zeros-zero : (n : ℕ) → T (allZero (zeros n))
+zeros-zero zero = tt
+zeros-zero (suc n) = zeros-zero n
+
+-- ---- a name that requests allow
+pub record Allowed (nm : List ℕ) : Type 0 where
+  pub some : 1 ≤ length nm
+  pub short : length nm < 16
+  pub whole : (i : ℕ) → i < length nm → getD nm i 0 ≢ 0
+
+pub allowed : (nm : List ℕ) → T (nameAllowed nm) → Allowed nm
+unfolding nameAllowed labelAllowed firstZero zeroAt
+allowed nm t =
+    let a : T (labelAllowed nm) = and-r (leb 1 (length nm)) _ t in
+    let z : firstZero nm ≡ length nm = eqb→eq (firstZero nm) (length nm) (and-r (ltb (length nm) 16) _ a) in
+    record {
+      some = leb→le 1 (length nm) (and-l (leb 1 (length nm)) _ t);
+      short = ltb→lt (length nm) 16 (and-l (ltb (length nm) 16) _ a);
+      whole = λ i h e. T-not (zeroAt nm i) (least-below (zeroAt nm) (length nm) i (omega arith)) (eqb-of e);
+    }
+
+module _ (nm : List ℕ) (ok : Allowed nm) where
+  abbrev field : List ℕ
+  field = padTo 16 nm
+
+  pad-is : padTo 16 nm ≡ nm ++ zeros (16 - length nm)
+  pad-is = ap (λ (x : List ℕ). x ++ zeros (16 - length nm)) (take-all 16 nm (omega (arith, ok .short)))
+
+  field-byte : (i : ℕ) → i < length nm → getD (padTo 16 nm) i 0 ≡ getD nm i 0
+  field-byte i h = ap (λ (x : List ℕ). getD x i 0) pad-is ∙ List·getD-append nm (zeros (16 - length nm)) 0 i h
+
+  field-end : getD (padTo 16 nm) (length nm) 0 ≡ 0
+  field-end =
+      ap (λ (x : List ℕ). getD x (length nm) 0) pad-is
+      ∙ ap (λ (i : ℕ). getD (nm ++ zeros (16 - length nm)) i 0) (omega arith)
+      ∙ getD-append-add nm (zeros (16 - length nm)) 0 0
+      ∙ zero-bytes (zeros (16 - length nm)) (zeros-zero (16 - length nm)) 0
+
+  pub field-zero : firstZero (padTo 16 nm) ≡ length nm
+  unfolding firstZero zeroAt
+  field-zero =
+      least-is (zeroAt (padTo 16 nm)) (length (padTo 16 nm)) (length nm) (omega (arith, length-pad 16 nm, ok .short)) (eqb-of field-end)
+      (λ i l. neqb-of (getD (padTo 16 nm) i 0) 0 (λ e. ok .whole i l (sym (field-byte i l) ∙ e)))
+
+  pub field-name : upToZero (padTo 16 nm) ≡ nm
+  unfolding upToZero
+  field-name =
+      ap (λ (k : ℕ). take k (padTo 16 nm)) field-zero ∙ ap (take (length nm)) pad-is ∙ take-at nm (zeros (16 - length nm)) (length nm) refl
+
+  pub field-formed : T (nameFormed (padTo 16 nm))
+  unfolding nameFormed
+  field-formed =
+      let z : T (allZero (drop (firstZero (padTo 16 nm)) (padTo 16 nm))) =
+      subst (λ (x : List ℕ). T (allZero x))
+      (sym (ap (λ (k : ℕ). drop k (padTo 16 nm)) field-zero ∙ ap (drop (length nm)) pad-is ∙ drop-at nm (zeros (16 - length nm)) (length nm) refl))
+      (zeros-zero (16 - length nm))
+      in
+      and-of (leb 1 (firstZero (padTo 16 nm)) && ltb (firstZero (padTo 16 nm)) 16) (allZero (drop (firstZero (padTo 16 nm)) (padTo 16 nm)))
+      (and-of (leb 1 (firstZero (padTo 16 nm))) (ltb (firstZero (padTo 16 nm)) 16) (le→leb 1 (firstZero (padTo 16 nm)) (omega (arith, field-zero, ok .some))) (lt→ltb (firstZero (padTo 16 nm)) 16 (omega (arith, field-zero, ok .short)))) z
+
+  -- ---- the entry of inode i
+  module _ (i : ℕ) where
+    pub length-entry : length (entry i nm) ≡ 20
+    unfolding entry
+    length-entry = length-append (bytes4 i) (padTo 16 nm) ∙ omega (arith, length-pad 16 nm)
+
+    pub entry-inode : slotInode (entry i nm) ≡ i
+    unfolding slotInode entry
+    entry-inode = word-bytes4 i (padTo 16 nm)
+
+    pub entry-field : nameField (entry i nm) ≡ padTo 16 nm
+    unfolding entry part
+    entry-field = take-all 16 (padTo 16 nm) (omega (arith, length-pad 16 nm))
+
+    pub entry-name : slotName (entry i nm) ≡ nm
+    unfolding slotName
+    entry-name = ap upToZero entry-field ∙ field-name
+
+    pub entry-taken : T (not (slotFree (entry i nm)))
+    unfolding slotFree entry
+    entry-taken =
+        not-T (allZero (entry i nm))
+        (λ t. ok .whole 0 (ok .some) (sym (field-byte 0 (ok .some)) ∙ zero-bytes (entry i nm) t 4))
+
+    pub entry-used : (n : ℕ) → T (inRange n i) → T (slotUsed n (entry i nm))
+    unfolding slotUsed
+    entry-used n r =
+        and-of (inRange n (slotInode (entry i nm))) (nameFormed (nameField (entry i nm)))
+        (subst (λ (x : ℕ). T (inRange n x)) (sym entry-inode) r) (subst (λ (x : List ℕ). T (nameFormed x)) (sym entry-field) field-formed)
+
+-- ---- the inode of a file
+module _ (B sz : ℕ) (bs : List ℕ) (few : 4 * (1 + length bs) ≤ B) where
+  abbrev rest : List ℕ
+  rest = zeros (B - length (words (sz ∷ bs)))
+
+  block-is : inodeBlock B sz bs ≡ words (sz ∷ bs) ++ rest
+  unfolding inodeBlock
+  block-is = ap (λ (x : List ℕ). x ++ rest) (take-all B (words (sz ∷ bs)) (omega (arith, length-words (sz ∷ bs))))
+
+  pub length-inode : length (inodeBlock B sz bs) ≡ B
+  unfolding inodeBlock
+  length-inode = length-pad B (words (sz ∷ bs))
+
+  pub inode-size : inodeSize (inodeBlock B sz bs) ≡ sz
+  unfolding inodeSize
+  inode-size = ap (λ (x : List ℕ). word x 0) block-is ∙ words-at (sz ∷ bs) rest 0 (omega arith)
+
+  pub inode-number : (k : ℕ) → k < length bs → inodeNumber (inodeBlock B sz bs) k ≡ getD bs k 0
+  unfolding inodeNumber
+  inode-number k h =
+      ap₂ word block-is (omega arith) ∙ words-at (sz ∷ bs) rest (suc k) (omega arith)
+
+  pub inode-rest : (k : ℕ) → length bs ≤ k → inodeNumber (inodeBlock B sz bs) k ≡ 0
+  unfolding inodeNumber
+  inode-rest k h =
+      let e : 4 + 4 * k ≡ length (words (sz ∷ bs)) + 4 * (k - length bs) = omega (arith, length-words (sz ∷ bs)) in
+      ap₂ word block-is e ∙ word-skip (words (sz ∷ bs)) rest (4 * (k - length bs)) ∙ zero-word rest (4 * (k - length bs)) (zeros-zero (B - length (words (sz ∷ bs))))

@@ -1,0 +1,45 @@
+-- Changes of the plain view of a volume at one name; two at different names commute.
+use mathlib.Core.Path.{_≡_, refl, sym, ap, _∙_}
+use mathlib.Core.Bool.{Bool, true, false, not, cond, _&&_}
+use Prim.Native.Nat.{ℕ, _+_, _-_}
+use mathlib.Core.List.{List, [], _∷_}
+use mathlib.Core.Option.{Option, none, some, Option·map}
+use lib.ListN.{length, getD}
+use lib.Dec.{T, leb, ltb}
+use Rattle.lists.specs.Name.{zeros}
+use Rattle.lists.specs.Table.{table}
+use Rattle.tfs_rules.specs.Layout.{sameName}
+use Rattle.tfs_rules.specs.View.{Contents}
+use Rattle.tfs_rules.specs.CheckMeans.{same-sym}
+use Rattle.tfs_laws.specs.Names.{name-trans}
+
+-- what stands under a name becomes g of it
+abbrev pub change : List ℕ → (Option (List ℕ) → Option (List ℕ)) → Contents → Contents
+change k g c j = cond (sameName j k) (g (c j)) (c j)
+
+-- create: zeros of the asked size
+abbrev pub made : ℕ → Option (List ℕ) → Option (List ℕ)
+made sz old = some (zeros sz)
+
+-- remove
+abbrev pub gone : Option (List ℕ) → Option (List ℕ)
+gone old = none
+
+-- bytes laid over a content from o on, as far as it reaches
+abbrev pub over : ℕ → List ℕ → List ℕ → List ℕ
+over o bs old = table (λ p. cond (leb o p && ltb p (o + length bs)) (getD bs (p - o) 0) (getD old p 0)) 0 (length old)
+
+-- write
+abbrev pub wrote : ℕ → List ℕ → Option (List ℕ) → Option (List ℕ)
+wrote o bs = Option·map (over o bs)
+
+-- two changes at different names commute
+pub change-comm : (k m : List ℕ) (f g : Option (List ℕ) → Option (List ℕ)) (c : Contents) → (T (sameName k m) → ⊥) → (j : List ℕ) → change k f (change m g c) j ≡ change m g (change k f c) j
+change-comm k m f g c apart j =
+    go (sameName j k) (sameName j m) (λ s t. apart (name-trans k j m (same-sym j k s) t))
+  where
+    go : (a b : Bool) → (T a → T b → ⊥) → cond a (f (cond b (g (c j)) (c j))) (cond b (g (c j)) (c j)) ≡ cond b (g (cond a (f (c j)) (c j))) (cond a (f (c j)) (c j))
+    go true true h = absurd (h tt tt)
+    go true false h = refl
+    go false true h = refl
+    go false false h = refl

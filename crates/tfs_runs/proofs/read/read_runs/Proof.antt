@@ -1,0 +1,56 @@
+-- `read_runs` meets its contract: the first `done` bytes are read, the others as they were.
+use mathlib.Core.List.{_++_}
+use mathlib.Core.Path.{_≡_, ap, _∙_}
+use Prim.Native.Nat.{_≤_, _-_}
+use native.Mathlib.Omega.{arith}
+use lib.ListN.{length, getD, drop, length-append, length-drop}
+use denote.Ref.{now}
+use Rattle.lists.specs.Table.{table, length-table}
+use Rattle.tfs_runs.specs.Place.{at}
+use Rattle.tfs_runs.specs.Read.{read-more}
+use borrow.Author.Needs.{needs}
+use Rattle.tfs_runs.proofs.read.read_runs.Statement.{statement}
+use Rattle.tfs_runs.proofs.read.read_runs.Tie as tie
+
+abbrev Inv-loop : tie.InvT-loop
+Inv-loop image blocks offset buf₀ count done₀ buf done = (done ≤ count) × (buf ≡ table (λ p. getD image (at blocks p) 0) offset done ++ drop done buf₀) × (length buf ≡ length buf₀)
+
+abbrev μ-loop : tie.MeasureT-loop
+μ-loop image blocks offset buf₀ count done₀ buf done = count - done
+
+loop-again : tie.Need-loop-again Inv-loop μ-loop
+loop-again c =
+    let at-loop = c .before .before .before .before .before .loop in
+    let start = c .before .before .before .before .before .before .before .before .before in
+    let call = c .before .before .read-run in
+    let args = start .args in
+    let rest = length (at-loop .buf) - at-loop .done in
+    let more =
+    read-more (λ p. getD (now (args .image)) (at (now (args .blocks)) p) 0) (args .offset) (at-loop .done) (call .result) rest (now (args .buf)) (at-loop .buf) (call .last .1 .1 .1 .0)
+    (omega arith) (omega arith) (at-loop .inv .1) (call .ensures .1) in
+    (search needs, more, ap length more ∙ simp (length-append, length-table, length-drop) (omega arith))
+
+returns : tie.Need-returns Inv-loop μ-loop
+returns c =
+    let at-loop = c .before .loop in
+    let all : at-loop .done ≡ c .before .before .before .before .before .args .count = omega arith in
+    rw all at (at-loop .inv .1)
+
+pub read-runs-spec : {M : Type 1} → statement M
+read-runs-spec =
+    tie.close
+    (tie.spec
+    Inv-loop
+    μ-loop
+    (λ c. search needs)
+    (λ c. search needs)
+    (λ c. search needs)
+    (λ c. search needs)
+    (λ c. search needs)
+    (λ c. search needs)
+    (λ c κs. search needs)
+    (λ c. search needs)
+    (λ c. search needs)
+    loop-again
+    (λ c. search needs)
+    returns)

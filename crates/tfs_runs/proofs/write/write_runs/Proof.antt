@@ -1,0 +1,59 @@
+-- `write_runs` meets its contract: the first `done` bytes are stored.
+use mathlib.Core.Path.{_≡_, _∙_}
+use Prim.Native.Nat.{_≤_, _-_}
+use native.Mathlib.Omega.{arith}
+use lib.ListN.{length, take, length-take, length-drop}
+use denote.Ref.{now}
+use Rattle.lists.specs.Store.{storeAt}
+use Rattle.tfs_runs.specs.Place.{at}
+use Rattle.tfs_runs.specs.Write.{write-turn}
+use borrow.Author.Needs.{needs}
+use Rattle.tfs_runs.proofs.write.write_runs.Statement.{statement}
+use Rattle.tfs_runs.proofs.write.write_runs.Tie as tie
+
+abbrev Inv-loop : tie.InvT-loop
+Inv-loop image₀ blocks offset buf count done₀ image done = (done ≤ count) × (image ≡ storeAt (at blocks) image₀ offset (take done buf)) × (length image ≡ length image₀)
+
+abbrev μ-loop : tie.MeasureT-loop
+μ-loop image₀ blocks offset buf count done₀ image done = count - done
+
+write-run-requires : tie.Need-write-run-requires Inv-loop μ-loop
+write-run-requires c κs =
+    let start = c .before .before .before .before .before .before .before in
+    (λ i l. omega (arith, start .pre .0 i l), simp (length-take, length-drop) (omega arith), simp (length-take, length-drop) (omega arith))
+
+loop-again : tie.Need-loop-again Inv-loop μ-loop
+loop-again c =
+    let at-loop = c .before .before .before .before .before .before .loop in
+    let start = c .before .before .before .before .before .before .before .before .before .before in
+    let call = c .before .before .write-run in
+    let args = start .args in
+    let left = args .count - at-loop .done in
+    let stored =
+    write-turn (at (now (args .blocks))) (now (args .image)) (now (args .buf)) (at-loop .image) (call .last .0) (args .offset) (at-loop .done) (call .result) left
+    (omega arith) (omega arith) (at-loop .inv .1) (call .ensures .1) in
+    (search needs, stored, call .kept .0 ∙ at-loop .inv .2)
+
+returns : tie.Need-returns Inv-loop μ-loop
+returns c =
+    let at-loop = c .before .loop in
+    let all : at-loop .done ≡ c .before .before .before .before .before .args .count = omega arith in
+    rw all at (at-loop .inv .1)
+
+pub write-runs-spec : {M : Type 1} → statement M
+write-runs-spec =
+    tie.close
+    (tie.spec
+    Inv-loop
+    μ-loop
+    (λ c. search needs)
+    (λ c. search needs)
+    (λ c. search needs)
+    (λ c. search needs)
+    (λ c. search needs)
+    write-run-requires
+    (λ c. search needs)
+    (λ c. search needs)
+    loop-again
+    (λ c. search needs)
+    returns)

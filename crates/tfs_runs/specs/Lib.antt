@@ -1,0 +1,4 @@
+pub mod Place
+pub mod Read
+pub mod Write
+pub mod Blank
