@@ -2,37 +2,35 @@
 use mathlib.Core.Path.{_≡_, refl, sym, ap, _∙_, subst}
 use mathlib.Core.Logic.{inl, inr, ⊎-elim}
 use mathlib.Core.Bool.{true, false, not, _&&_}
-use mathlib.Core.Option.{none, some}
+use mathlib.Core.Option.{none}
 use Prim.Native.Nat.{ℕ, zero, suc, _+_, _-_, _*_, _%_, _≤_, _<_}
 use mathlib.Core.List.{List, [], _∷_, _++_}
 use native.Mathlib.Omega.{arith}
 use native.Mathlib.Decide.{decLt}
-use lib.Arith.{le→nltb}
-use lib.ListN.{length, getD, drop, length-append, length-take, length-replicate}
+use lib.ListN.{length, getD, drop, length-take, length-replicate}
 use lib.Seq.{take-all, getD-append-add}
-use lib.Dec.{T, ltb, eqb, ltb→lt, nltb→le, T-not, not-T}
-use Rattle.lists.specs.Test.{allZero, by-test, cond-yes, cond-no, and-of, and-l, yes-yes, eqb-of, of-true}
+use lib.Dec.{T, ltb, eqb, ltb→lt, nltb→le, T-not}
+use Rattle.lists.specs.Test.{allZero, by-test, cond-yes, cond-no, and-of, and-l, no-and, yes-yes, eqb-of, of-true}
 use Rattle.lists.specs.Least.{least-all}
 use Rattle.lists.specs.Name.{zeros, padTo}
 use Rattle.lists.specs.Part.{part, getD-part, getD-with-after}
 use Rattle.lists.specs.Word.{word, bytes4, word-bytes4}
 use Rattle.lists.specs.Bits.{bitOf}
 use Rattle.tfs_rules.specs.Layout.{BlockSize, slots, block, setBlock, magic, volumeName, mapByte, mapBit, setBits, slot, slotFree, labelAllowed, sameName}
-use Rattle.tfs_rules.specs.View.{View, view, free, name, slotOf, content, contents}
+use Rattle.tfs_rules.specs.View.{View, view, free, name, slotOf, contents}
 use Rattle.tfs_rules.specs.Check.{tooShort}
 use Rattle.tfs_rules.specs.Consistent.{File, Sound, Consistent}
 use Rattle.tfs_rules.specs.Claims.{slotIn, owns-file}
 use Rattle.tfs_rules.specs.Requests.{done, granted, Outcome, Store, store, storeAll, refuse, formatStores, format}
-use Rattle.tfs_laws.specs.Views.{view-head, view-map, view-dir}
-use Rattle.tfs_laws.specs.Content.{contents-at}
+use Rattle.tfs_laws.specs.Views.{zero-bytes, view-head, view-map, view-dir}
 use Rattle.tfs_laws.specs.Stores.{length-setBlock, Fits, Away, length-storeAll, stored-first}
+use Rattle.tfs_laws.specs.Entries.{length-pad, zeros-zero}
+use Rattle.tfs_laws.specs.Others.{stands-not}
 use Rattle.tfs_laws.specs.MapBits.{In, Mapped, length-setBits, bits-kept, bits-set}
 
 -- ---- zeros
 zeros-byte : (n i : ℕ) → getD (zeros n) i 0 ≡ 0
-zeros-byte zero i = refl
-zeros-byte (suc n) zero = refl
-zeros-byte (suc n) (suc i) = zeros-byte n i
+zeros-byte n i = zero-bytes (zeros n) (zeros-zero n) i
 
 all-zero : (l : List ℕ) → ((i : ℕ) → i < length l → getD l i 0 ≡ 0) → T (allZero l)
 all-zero [] h = tt
@@ -54,10 +52,6 @@ unfolding slotFree slot part
 zeros-free n s =
     all-zero (part (s * 20) 20 (zeros n))
     (λ i l. getD-part (s * 20) 20 (zeros n) i (omega (arith, length-take 20 (drop (s * 20) (zeros n)))) ∙ zeros-byte n (s * 20 + i))
-
--- padding to n bytes gives n bytes
-pub length-pad : (n : ℕ) (l : List ℕ) → length (padTo n l) ≡ n
-length-pad n l = simp (length-append, length-take, length-replicate) (omega arith)
 
 -- ---- stores that end at len or before
 pub fits-up : (B len more : ℕ) → len ≤ more → (xs : List Store) → Fits B len xs → Fits B more xs
@@ -151,7 +145,7 @@ module _ (B : ℕ) (v : View) (clear : (s : ℕ) → T (free v s)) where
 
   pub slotOf-empty : (nm : List ℕ) → slotOf B v nm ≡ slots B
   unfolding slotOf
-  slotOf-empty nm = least-all (λ s. not (free v s) && sameName (name v s) nm) (slots B) (λ s l. not-T (not (free v s) && sameName (name v s) nm) (λ t. T-not (free v s) (and-l (not (free v s)) _ t) (clear s)))
+  slotOf-empty nm = least-all (λ s. not (free v s) && sameName (name v s) nm) (slots B) (λ s l. no-and (not (free v s)) _ (yes-yes (free v s) (clear s)))
 
 -- format stores to blocks 0 to 2
 pub format-fits : (B : ℕ) → BlockSize B → (label : List ℕ) → Fits B (3 * B) (formatStores B label)
@@ -210,10 +204,7 @@ module _ (B : ℕ) (size : BlockSize B) (img label : List ℕ) (long : 3 * B ≤
       }
 
   formatted-empty : (nm : List ℕ) → contents B formatted nm ≡ none
-  formatted-empty nm =
-      contents-at B formatted nm
-      ∙ cond-no (ltb (slotOf B (view B formatted) nm) (slots B)) (some (content B (view B formatted) formatted (slotOf B (view B formatted) nm))) none
-      (le→nltb (slotOf B (view B formatted) nm) (slots B) (omega (arith, slotOf-empty B (view B formatted) formatted-free nm)))
+  formatted-empty nm = stands-not B formatted nm (omega (arith, slotOf-empty B (view B formatted) formatted-free nm))
 
 -- ---- format, granted or refused
 -- what holds of each outcome that format can have
@@ -229,7 +220,7 @@ by-format B img label P short bad full =
     (λ u. subst P (sym (cond-yes (not (labelAllowed label)) _ _ u)) (bad u))))
 
 -- a refusal is no grant
-pub not-granted {ℓ} : {X : Type ℓ} → false ≡ true → X
+not-granted {ℓ} : {X : Type ℓ} → false ≡ true → X
 not-granted e = absurd (subst T (sym e) tt)
 
 module _ {B : ℕ} (size : BlockSize B) (img label : List ℕ) where

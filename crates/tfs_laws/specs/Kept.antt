@@ -1,7 +1,7 @@
 -- What create, remove and write keep: block 0, the directory's bytes past the last slot, and the map's bits from N on.
 use mathlib.Core.Path.{_≡_, refl, sym, ap, _∙_, subst}
-use mathlib.Core.Logic.{inl, ⊎-elim}
-use mathlib.Core.Bool.{Bool, true, false, not, cond}
+use mathlib.Core.Logic.{inl}
+use mathlib.Core.Bool.{false}
 use Prim.Native.Nat.{ℕ, suc, _+_, _*_, _/_, _≤_, _<_, min}
 use mathlib.Core.List.{List, [], _∷_, _++_, append-assoc}
 use native.Mathlib.Omega.{arith}
@@ -9,26 +9,30 @@ use native.Mathlib.Nat.{div-mul-le-self, mul-le-mul-right}
 use native.Mathlib.Decide.{decLt}
 use lib.ListN.{length, getD, length-take}
 use lib.Seq.{getD-take}
-use lib.Dec.{T, ltb, ltb→lt}
+use lib.Dec.{T}
+use Rattle.lists.specs.Test.{by-test}
 use Rattle.lists.specs.Name.{zeros}
-use Rattle.lists.specs.Part.{length-with, getD-with-after}
+use Rattle.lists.specs.Part.{getD-with-after}
 use Rattle.lists.specs.Word.{words}
-use Rattle.lists.specs.Sum.{sum-one, one-yes}
-use Rattle.tfs_rules.specs.Layout.{BlockSize, slots, maxSize, nameAllowed, need, blocks, block, mapBit, setBits, setSlot, entry, inodeBlock}
-use Rattle.tfs_rules.specs.View.{View, view, slotOf, freeSlot, freeBlocks}
-use Rattle.tfs_rules.specs.Check.{Verdict, consistent, broken, check, fileClaims, times}
-use Rattle.tfs_rules.specs.Consistent.{Inside, Consistent}
-use Rattle.tfs_rules.specs.Claims.{times-claims}
-use Rattle.tfs_rules.specs.CheckMeans.{check-means}
-use Rattle.tfs_rules.specs.Total.{claim-inside, three-blocks}
+use Rattle.tfs_rules.specs.Layout.{BlockSize, slots, need, blocks, block, mapBit, setBits, setSlot, entry, inodeBlock}
+use Rattle.tfs_rules.specs.View.{View, view, slotOf, freeSlot}
+use Rattle.tfs_rules.specs.Check.{Verdict, consistent, broken, check, fileClaims}
+use Rattle.tfs_rules.specs.Consistent.{File, Inside, Consistent}
+use Rattle.tfs_rules.specs.CheckMeans.{check-means, owns-inside}
+use Rattle.tfs_rules.specs.Total.{three-blocks}
 use Rattle.tfs_rules.specs.Room.{FreeIn, free-member}
-use Rattle.tfs_rules.specs.Requests.{Answer, done, value, refused, granted, checkedOutcome, Store, store, stored, storeAll, zeroStores, freeFrom, chosen, placeStores, createStores, createView, create, removeStores, removeView, remove, write}
+use Rattle.tfs_rules.specs.Requests.{granted, Outcome, checkedOutcome, Store, store, storeAll, zeroStores, freeFrom, chosen, placeStores, createStores, create, removeStores, remove, write}
 use Rattle.tfs_laws.specs.Sizes.{after-block}
 use Rattle.tfs_laws.specs.Views.{view-n, view-head, view-map, view-dir}
 use Rattle.tfs_laws.specs.Stores.{Fits, Away, length-block, stored-away, stored-first, zero-fits, zero-away}
-use Rattle.tfs_laws.specs.MapBits.{In, in-at, mapped-all, in-map, length-setBits, bits-kept}
+use Rattle.tfs_laws.specs.MapBits.{In, in-at, mapped-all, length-setBits, bits-kept}
 use Rattle.tfs_laws.specs.WriteLists.{wr, request, request-view}
-use Rattle.tfs_laws.specs.Formats.{length-pad, fits-up, stored-at, not-granted}
+use Rattle.tfs_laws.specs.Names.{slot-hit, length-setSlot, claims-owner}
+use Rattle.tfs_laws.specs.Entries.{length-pad, Allowed, allowed, length-entry}
+use Rattle.tfs_laws.specs.Removes.{map-inside}
+use Rattle.tfs_laws.specs.Creates.{CreateGrant}
+use Rattle.tfs_laws.specs.Changes.{Change, creates, removes, writes, perform, create-image, create-granted, remove-image, remove-granted, refused-keeps}
+use Rattle.tfs_laws.specs.Formats.{fits-up, stored-at}
 
 -- what requests other than format keep
 pub record KeptLaw (B : ℕ) (img new : List ℕ) : Type 0 where
@@ -52,64 +56,40 @@ kept-view B img new e =
     }
 
 -- ---- which images a request can leave
--- what holds of the image before and of the image with the stores holds of the image after
-by-stored : (B : ℕ) (img : List ℕ) (xs : List Store) (verdict : Verdict) (a : Answer) (P : List ℕ → Type 0) → P img → (verdict ≡ consistent → granted a ≡ true → P (storeAll B img xs)) → P (checkedOutcome verdict img (stored B img a xs) .image)
-by-stored B img xs consistent a P same full = go (granted a) (λ e. full refl e)
-  where
-    go : (g : Bool) → (g ≡ true → P (storeAll B img xs)) → P (cond g (storeAll B img xs) img)
-    go true f = f refl
-    go false f = same
-by-stored B img xs (broken num p) a P same full = same
+granted-core : (x : Verdict) (img : List ℕ) (o : Outcome) → T (granted (checkedOutcome x img o .answer)) → x ≡ consistent
+granted-core consistent img o t = refl
+granted-core (broken num p) img o t = absurd t
 
-create-core : (a b c d e : Bool) (h : ℕ) → granted (cond (not a) (refused 8 0) (cond b (refused 9 0) (cond c (refused 10 0) (cond (not d) (refused 11 0) (cond e (refused 12 0) (value h)))))) ≡ true → T d
-create-core a b c true e h t = tt
-create-core false b c false e h t = not-granted t
-create-core true true c false e h t = not-granted t
-create-core true false true false e h t = not-granted t
-create-core true false false false e h t = not-granted t
+-- a granted request passed the check
+pub granted-passed : (B : ℕ) (img : List ℕ) (c : Change) → T (granted (perform B img c .answer)) → check B img ≡ consistent
+unfolding perform create remove write
+granted-passed B img (creates nm z) t = granted-core (check B img) img _ t
+granted-passed B img (removes nm) t = granted-core (check B img) img _ t
+granted-passed B img (writes h o bs) t = granted-core (check B img) img _ t
 
-remove-core : (a b : Bool) → granted (cond (not a) (refused 8 0) (cond (not b) (refused 13 0) done)) ≡ true → T b
-remove-core a true t = tt
-remove-core false false t = not-granted t
-remove-core true false t = not-granted t
+-- what holds of the image before and after a grant holds after every answer
+by-answer : (B : ℕ) (img : List ℕ) (c : Change) (P : List ℕ → Type 0) → P img → (check B img ≡ consistent → T (granted (perform B img c .answer)) → P (perform B img c .image)) → P (perform B img c .image)
+by-answer B img c P same full =
+    by-test (granted (perform B img c .answer)) (λ t. full (granted-passed B img c t) t) (λ t. subst P (sym (refused-keeps B img c t)) same)
 
--- a granted create has a free slot
-pub create-slot : (B : ℕ) (v : View) (nm : List ℕ) (sz : ℕ) → granted (createView B v nm sz) ≡ true → freeSlot B v < slots B
-unfolding createView
-create-slot B v nm sz g =
-    ltb→lt (freeSlot B v) (slots B)
-    (create-core (nameAllowed nm) (ltb (maxSize B) sz) (ltb (slotOf B v nm) (slots B)) (ltb (freeSlot B v) (slots B)) (ltb (freeBlocks v) (1 + need B sz)) (getD (chosen B v sz) 0 0) g)
-
--- a granted remove has the slot of its name
-pub remove-slot : (B : ℕ) (v : View) (nm : List ℕ) → granted (removeView B v nm) ≡ true → slotOf B v nm < slots B
-unfolding removeView
-remove-slot B v nm g = ltb→lt (slotOf B v nm) (slots B) (remove-core (nameAllowed nm) (ltb (slotOf B v nm) (slots B)) g)
-
--- create stores where the volume is consistent and has a free slot
-pub by-create : (B : ℕ) (img nm : List ℕ) (sz : ℕ) (P : List ℕ → Type 0) → P img → (check B img ≡ consistent → freeSlot B (view B img) < slots B → P (storeAll B img (createStores B (view B img) nm sz))) → P (create B img nm sz .image)
-unfolding create
+-- granted, create stores
+pub by-create : (B : ℕ) (img nm : List ℕ) (sz : ℕ) (P : List ℕ → Type 0) → P img → (check B img ≡ consistent → CreateGrant B (view B img) nm sz → P (storeAll B img (createStores B (view B img) nm sz))) → P (create B img nm sz .image)
+unfolding perform
 by-create B img nm sz P same full =
-    by-stored B img (createStores B (view B img) nm sz) (check B img) (createView B (view B img) nm sz) P same
-    (λ e g. full e (create-slot B (view B img) nm sz g))
+    by-answer B img (creates nm sz) P same
+    (λ e g. subst P (sym (create-image B img e nm sz g)) (full e (create-granted B img e nm sz g)))
 
--- remove stores where the volume is consistent and the name stands
+-- granted, remove stores
 pub by-remove : (B : ℕ) (img nm : List ℕ) (P : List ℕ → Type 0) → P img → (check B img ≡ consistent → slotOf B (view B img) nm < slots B → P (storeAll B img (removeStores B (view B img) nm))) → P (remove B img nm .image)
-unfolding remove
+unfolding perform
 by-remove B img nm P same full =
-    by-stored B img (removeStores B (view B img) nm) (check B img) (removeView B (view B img) nm) P same
-    (λ e g. full e (remove-slot B (view B img) nm g))
-
-write-left : (B : ℕ) (img : List ℕ) (h o : ℕ) (buf : List ℕ) (num p : ℕ) → check B img ≡ broken num p → write B img h o buf .image ≡ img
-unfolding write
-write-left B img h o buf num p e = rw e
+    by-answer B img (removes nm) P same
+    (λ e g. subst P (sym (remove-image B img e nm g)) (full e (remove-granted B img e nm g)))
 
 -- write changes nothing where the volume is not consistent
 pub by-write : (B : ℕ) (img : List ℕ) (h o : ℕ) (buf : List ℕ) (P : List ℕ → Type 0) → P img → (check B img ≡ consistent → P (write B img h o buf .image)) → P (write B img h o buf .image)
-by-write B img h o buf P same full = go (check B img) refl
-  where
-    go : (verdict : Verdict) → check B img ≡ verdict → P (write B img h o buf .image)
-    go consistent e = full e
-    go (broken num p) e = subst P (sym (write-left B img h o buf num p e)) same
+unfolding perform
+by-write B img h o buf P same full = by-answer B img (writes h o buf) P same (λ e g. full e)
 
 -- ---- a map with bits of blocks below N changed, and a directory with a slot changed
 -- the volume ends inside the image
@@ -117,18 +97,6 @@ pub volume-end : (B : ℕ) (img : List ℕ) → blocks B img * B ≤ length img
 unfolding blocks
 volume-end B img =
     omega (arith, mul-le-mul-right {m = min (8 * B) (length img / B)} {n = length img / B} B (omega arith), div-mul-le-self (length img) B)
-
-most-blocks : (B : ℕ) (img : List ℕ) → blocks B img ≤ 8 * B
-unfolding blocks
-most-blocks B img = omega arith
-
-length-entry : (i : ℕ) (nm : List ℕ) → length (entry i nm) ≡ 20
-unfolding entry
-length-entry i nm = omega (arith, length-pad 16 nm)
-
-in-times : (b : ℕ) (xs : List ℕ) → In b xs → 1 ≤ times b xs
-in-times b [] i = absurd i
-in-times b (x ∷ xs) i = ⊎-elim (λ e. omega (arith, one-yes x b (sym e))) (λ j. omega (arith, in-times b xs j)) i
 
 module _ (B : ℕ) (size : BlockSize B) (img : List ℕ) (long : 3 * B ≤ length img) where
   length-map : length (view B img .map) ≡ B
@@ -141,25 +109,17 @@ module _ (B : ℕ) (size : BlockSize B) (img : List ℕ) (long : 3 * B ≤ lengt
   pub three : 3 ≤ blocks B img
   three = subst (λ (n : ℕ). 3 ≤ n) (view-n B img) (three-blocks B size img long)
 
-  bits-past : (w : ℕ) (cs : List ℕ) → w < 2 → ((c : ℕ) → In c cs → c < blocks B img) → (b : ℕ) → blocks B img ≤ b → mapBit (setBits (view B img .map) w cs) b ≡ mapBit (block B img 1) b
+  bits-past : (w : ℕ) (cs : List ℕ) → w < 2 → ((c : ℕ) → In c cs → c < view B img .n) → (b : ℕ) → blocks B img ≤ b → mapBit (setBits (view B img .map) w cs) b ≡ mapBit (block B img 1) b
   bits-past w cs two low b h =
       bits-kept w two cs (view B img .map)
-      (mapped-all cs (length (view B img .map)) (λ c i. rw length-map (in-map B c (size .whole) (omega (arith, low c i, most-blocks B img)))))
-      b (λ i. omega (arith, low b i))
+      (mapped-all cs (length (view B img .map)) (λ c i. rw length-map (map-inside B size img c (low c i))))
+      b (λ i. omega (arith, low b i, view-n B img))
       ∙ ap (λ (m : List ℕ). mapBit m b) (view-map B img)
 
-  module _ (s : ℕ) (l : s < slots B) (e : List ℕ) (k : length e ≡ 20) where
-    slot-in : s * 20 + 20 ≤ length (view B img .dir)
-    slot-in = omega (arith, length-dir)
-
-    length-slot : length (setSlot (view B img .dir) s e) ≡ B
-    unfolding setSlot
-    length-slot = length-with (s * 20) 20 e (view B img .dir) k slot-in ∙ length-dir
-
-    ends-past : (i : ℕ) → 20 * slots B ≤ i → getD (setSlot (view B img .dir) s e) i 0 ≡ getD (block B img 2) i 0
-    unfolding setSlot
-    ends-past i h =
-        getD-with-after (s * 20) 20 e (view B img .dir) k slot-in i (omega arith) ∙ ap (λ (d : List ℕ). getD d i 0) (view-dir B img)
+  ends-past : (s : ℕ) (e : List ℕ) → s < slots B → length e ≡ 20 → (i : ℕ) → 20 * slots B ≤ i → getD (setSlot (view B img .dir) s e) i 0 ≡ getD (block B img 2) i 0
+  unfolding setSlot
+  ends-past s e l k i h =
+      getD-with-after (s * 20) 20 e (view B img .dir) k (omega (arith, length-dir)) i (omega arith) ∙ ap (λ (d : List ℕ). getD d i 0) (view-dir B img)
 
 -- two lists of stores, one after the other
 fits-append : (B len : ℕ) (xs ys : List Store) → Fits B len xs → Fits B len ys → Fits B len (xs ++ ys)
@@ -196,10 +156,8 @@ module _ (B : ℕ) (size : BlockSize B) (img : List ℕ) (ok : Consistent B img)
       (clear-inside (getD l m 0) (omega (arith, f .high)) (f .clear))
 
   -- a block that the file in slot s claims is one of the volume
-  claims-inside : (s b : ℕ) → s < slots B → In b (fileClaims B v s) → Inside v b
-  claims-inside s b l i =
-      claim-inside B v (ok .sound) b
-      (omega (arith, times-claims B v b, sum-one (λ t. times b (fileClaims B v t)) (slots B) s l, in-times b (fileClaims B v s) i))
+  claims-inside : (s b : ℕ) → File B v s → In b (fileClaims B v s) → Inside v b
+  claims-inside s b f i = let o = claims-owner B v s b f i in owns-inside B v (ok .sound) (o .0) b (o .2)
 
   -- ---- stores to blocks of the volume
   abbrev end : ℕ
@@ -216,8 +174,8 @@ module _ (B : ℕ) (size : BlockSize B) (img : List ℕ) (ok : Consistent B img)
   stored-kept xs w cs s e fits away two low l k new-map new-dir =
       record {
         head = stored-away B xs img 0 (fits-up B end (length img) (volume-end B img) xs fits) away;
-        ends = λ i h. (ap (λ (d : List ℕ). getD d i 0) new-dir ∙ ends-past B size img (ok .long) s l e k i h);
-        bits = λ b h. (ap (λ (m : List ℕ). mapBit m b) new-map ∙ bits-past B size img (ok .long) w cs two (λ c i. inside-high c (low c i)) b h);
+        ends = λ i h. (ap (λ (d : List ℕ). getD d i 0) new-dir ∙ ends-past B size img (ok .long) s e l k i h);
+        bits = λ b h. (ap (λ (m : List ℕ). mapBit m b) new-map ∙ bits-past B size img (ok .long) w cs two (λ c i. low c i .high) b h);
       }
 
   module _ (nm : List ℕ) (l : slotOf B v nm < slots B) where
@@ -225,7 +183,7 @@ module _ (B : ℕ) (size : BlockSize B) (img : List ℕ) (ok : Consistent B img)
     pub remove-fits : Fits B end (removeStores B v nm)
     unfolding removeStores
     remove-fits = (
-      length-slot B size img (ok .long) (slotOf B v nm) l (zeros 20) refl,
+      length-setSlot B (v .dir) (slotOf B v nm) (zeros 20) (length-dir B size img (ok .long)) l refl,
       (
         at-block 2 (omega (arith, three-in)),
         (length-setBits (fileClaims B v (slotOf B v nm)) (v .map) 0 ∙ length-map B size img (ok .long), (at-block 1 (omega (arith, three-in)), tt)),
@@ -237,11 +195,11 @@ module _ (B : ℕ) (size : BlockSize B) (img : List ℕ) (ok : Consistent B img)
     remove-keeps =
         let fits : Fits B (length img) (removeStores B v nm) = fits-up B end (length img) (volume-end B img) (removeStores B v nm) remove-fits in
         stored-kept (removeStores B v nm) 0 (fileClaims B v (slotOf B v nm)) (slotOf B v nm) (zeros 20) remove-fits (omega arith, (omega arith, tt)) (omega arith)
-        (λ c i. claims-inside (slotOf B v nm) c l i) l refl
+        (λ c i. claims-inside (slotOf B v nm) c (slot-hit B v nm l .0) i) l refl
         (stored-at B (store 2 (setSlot (v .dir) (slotOf B v nm) (zeros 20)) ∷ []) (store 1 (setBits (v .map) 0 (fileClaims B v (slotOf B v nm)))) [] img fits tt)
         (stored-first B (store 2 (setSlot (v .dir) (slotOf B v nm) (zeros 20))) (store 1 (setBits (v .map) 0 (fileClaims B v (slotOf B v nm))) ∷ []) img fits (omega arith, tt))
 
-  module _ (nm : List ℕ) (sz s : ℕ) (l : s < slots B) where
+  module _ (nm : List ℕ) (good : Allowed nm) (sz s : ℕ) (l : s < slots B) where
     -- what create stores after the content blocks
     abbrev lasts : ℕ → List ℕ → List Store
     lasts i bs = store i (inodeBlock B sz bs) ∷ store 1 (setBits (v .map) 1 (i ∷ bs)) ∷ store 2 (setSlot (v .dir) s (entry i nm)) ∷ []
@@ -254,7 +212,7 @@ module _ (B : ℕ) (size : BlockSize B) (img : List ℕ) (ok : Consistent B img)
         at-block i h,
         (
           length-setBits (i ∷ bs) (v .map) 1 ∙ length-map B size img (ok .long),
-          (at-block 1 (omega (arith, three-in)), (length-slot B size img (ok .long) s l (entry i nm) (length-entry i nm), (at-block 2 (omega (arith, three-in)), tt))),
+          (at-block 1 (omega (arith, three-in)), (length-setSlot B (v .dir) s (entry i nm) (length-dir B size img (ok .long)) l (length-entry nm good i), (at-block 2 (omega (arith, three-in)), tt))),
         ),
       ),
     )
@@ -286,7 +244,7 @@ module _ (B : ℕ) (size : BlockSize B) (img : List ℕ) (ok : Consistent B img)
     place-keeps (i ∷ bs) low =
         let fits : Fits B (length img) (zeroStores B bs ++ lasts i bs) = fits-up B end (length img) (volume-end B img) (zeroStores B bs ++ lasts i bs) (place-fits (i ∷ bs) low) in
         stored-kept (zeroStores B bs ++ lasts i bs) 1 (i ∷ bs) s (entry i nm) (place-fits (i ∷ bs) low) (place-away i bs low) (omega arith)
-        (λ c j. let r = in-at (i ∷ bs) c j in subst (Inside v) (r .2) (low (r .0) (r .1))) l (length-entry i nm)
+        (λ c j. let r = in-at (i ∷ bs) c j in subst (Inside v) (r .2) (low (r .0) (r .1))) l (length-entry nm good i)
         (place-at i bs (store i (inodeBlock B sz bs) ∷ []) (store 1 (setBits (v .map) 1 (i ∷ bs))) (store 2 (setSlot (v .dir) s (entry i nm)) ∷ []) refl fits (omega arith, tt))
         (place-at i bs (store i (inodeBlock B sz bs) ∷ store 1 (setBits (v .map) 1 (i ∷ bs)) ∷ []) (store 2 (setSlot (v .dir) s (entry i nm))) [] refl fits tt)
 
@@ -296,17 +254,17 @@ module _ {B : ℕ} (size : BlockSize B) (img : List ℕ) where
   sound-of = check-means B size img .0
 
   -- create's stores are inside the volume
-  pub create-fits : (nm : List ℕ) (sz : ℕ) → check B img ≡ consistent → freeSlot B (view B img) < slots B → Fits B (blocks B img * B) (createStores B (view B img) nm sz)
+  pub create-fits : (nm : List ℕ) (sz : ℕ) → check B img ≡ consistent → CreateGrant B (view B img) nm sz → Fits B (blocks B img * B) (createStores B (view B img) nm sz)
   unfolding createStores
-  create-fits nm sz e l =
-      place-fits B size img (sound-of e) nm sz (freeSlot B (view B img)) l (chosen B (view B img) sz) (chosen-inside B size img (sound-of e) sz)
+  create-fits nm sz e g =
+      place-fits B size img (sound-of e) nm (allowed nm (g .named)) sz (freeSlot B (view B img)) (g .slot) (chosen B (view B img) sz) (chosen-inside B size img (sound-of e) sz)
 
   -- create keeps what the layout says is kept
   pub create-kept : (nm : List ℕ) (sz : ℕ) → KeptLaw B img (create B img nm sz .image)
   unfolding createStores
   create-kept nm sz =
       by-create B img nm sz (KeptLaw B img) (kept-same B img)
-      (λ e l. place-keeps B size img (sound-of e) nm sz (freeSlot B (view B img)) l (chosen B (view B img) sz) (chosen-inside B size img (sound-of e) sz))
+      (λ e g. place-keeps B size img (sound-of e) nm (allowed nm (g .named)) sz (freeSlot B (view B img)) (g .slot) (chosen B (view B img) sz) (chosen-inside B size img (sound-of e) sz))
 
   -- so does remove
   pub remove-kept : (nm : List ℕ) → KeptLaw B img (remove B img nm .image)

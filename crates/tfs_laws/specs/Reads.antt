@@ -1,20 +1,21 @@
 -- What read gives: the bytes of the file from the offset on, and the rest of the buffer as it was.
-use mathlib.Core.Path.{_≡_, refl, sym, ap, _∙_}
-use mathlib.Core.Bool.{Bool, false, not, cond, _&&_}
+use mathlib.Core.Path.{_≡_, refl, sym, ap, subst, _∙_}
+use mathlib.Core.Bool.{Bool, false, not, cond}
 use Prim.Native.Nat.{ℕ, zero, suc, _+_, _-_, _≤_, _<_, min}
 use mathlib.Core.List.{List, _∷_, _++_}
 use native.Mathlib.Omega.{arith}
 use native.Mathlib.Nat.{zero-add}
 use lib.ListN.{length, getD, take, drop}
-use lib.Dec.{T, ltb, eqb, ltb→lt, nltb→le, eqb→eq}
-use Rattle.lists.specs.Test.{by-test, cond-yes, cond-no, yes-yes, and-l, and-r}
-use Rattle.lists.specs.Least.{least-hit}
+use lib.Dec.{T, ltb, ltb→lt, nltb→le}
+use Rattle.lists.specs.Test.{cond-no, not-not}
 use Rattle.lists.specs.Table.{table}
 use Rattle.tfs_rules.specs.Layout.{slots}
-use Rattle.tfs_rules.specs.View.{View, view, free, inode, size, slotWith, place, content}
+use Rattle.tfs_rules.specs.View.{View, view, inode, size, slotWith, place, content}
 use Rattle.tfs_rules.specs.Check.{Verdict, consistent, broken, check}
 use Rattle.tfs_rules.specs.Consistent.{File}
 use Rattle.tfs_rules.specs.Requests.{Answer, value, refused, granted, checkedFilled, counted, transferView, readBuffer, read}
+use Rattle.tfs_laws.specs.Names.{handle-hit}
+use Rattle.tfs_laws.specs.Creates.{grant-step}
 
 -- ---- a stretch of a table
 table-at : (f : ℕ → ℕ) (k j d e : ℕ) → k ≡ j → d ≡ e → table f k d ≡ table f j e
@@ -46,32 +47,20 @@ pub record Transfer (B : ℕ) (v : View) (h o len c : ℕ) : Type 0 where
 -- the answer is a count only where neither 14 nor 15 is given
 transfer-core : (slot all size o n c : ℕ) → cond (not (ltb slot all)) (refused 14 0) (cond (ltb size o) (refused 15 0) (value n)) ≡ value c → (slot < all) × (o ≤ size) × (c ≡ n)
 transfer-core slot all size o n c e =
-    by-test (ltb slot all)
-    (λ t.
-    by-test (ltb size o)
-    (λ u. absurd (apart 15 (sym (cond-no (not (ltb slot all)) _ _ (yes-yes (ltb slot all) t) ∙ cond-yes (ltb size o) (refused 15 0) (value n) u) ∙ e)))
-    (λ u.
-    (ltb→lt slot all t, nltb→le size o u, same (sym (cond-no (not (ltb slot all)) _ _ (yes-yes (ltb slot all) t) ∙ cond-no (ltb size o) (refused 15 0) (value n) u) ∙ e))))
-    (λ t. absurd (apart 14 (sym (cond-yes (not (ltb slot all)) (refused 14 0) _ t) ∙ e)))
+    let g14 = grant-step (not (ltb slot all)) 14 (cond (ltb size o) (refused 15 0) (value n)) (subst (λ (x : Answer). T (granted x)) (sym e) tt) in
+    let g15 = grant-step (ltb size o) 15 (value n) (g14 .1) in
+    (ltb→lt slot all (not-not (ltb slot all) (g14 .0)), nltb→le size o (g15 .0), same (sym (cond-no (not (ltb slot all)) _ _ (g14 .0) ∙ cond-no (ltb size o) (refused 15 0) (value n) (g15 .0)) ∙ e))
   where
-    apart : (num : ℕ) → refused num 0 ≡ value c → ⊥
-    apart num d = let z : _≡_ {A = ℕ} 0 1 = cc in omega arith
-
     same : value n ≡ value c → c ≡ n
     same d = cc
 
 pub transfer-means : (B : ℕ) (v : View) (h o len c : ℕ) → transferView B v h o len ≡ value c → Transfer B v h o len c
-unfolding transferView counted slotWith
+unfolding transferView counted
 transfer-means B v h o len c e =
     let s : ℕ = slotWith B v h in
     let r : (s < slots B) × (o ≤ size v s) × (c ≡ min len (size v s - o)) = transfer-core s (slots B) (size v s) o (min len (size v s - o)) c e in
-    let hit : T (not (free v s) && eqb (inode v s) h) = least-hit (λ t. not (free v t) && eqb (inode v t) h) (slots B) (r .0) in
-    record {
-      file = record { slot = r .0; taken = and-l (not (free v s)) _ hit };
-      handle = eqb→eq (inode v s) h (and-r (not (free v s)) _ hit);
-      within = r .1;
-      count = r .2;
-    }
+    let hit : File B v s × (inode v s ≡ h) = handle-hit B v h (r .0) in
+    record { file = hit .0; handle = hit .1; within = r .1; count = r .2 }
 
 -- ---- read
 -- granted, read gives the bytes of the file from the offset on and "leaves the rest of the buffer"

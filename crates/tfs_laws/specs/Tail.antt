@@ -25,7 +25,9 @@ use Rattle.tfs_laws.specs.Writes.{step-other}
 use Rattle.tfs_laws.specs.WriteLists.{wr, request, request-image, request-length, putOf}
 use Rattle.tfs_laws.specs.Stores.{Fits, length-setBlock, length-block, length-storeAll}
 use Rattle.tfs_laws.specs.Formats.{fits-up, stored-past, format-fits, by-format, formatted-past, formatted-length}
-use Rattle.tfs_laws.specs.Kept.{volume-end, three, create-slot, remove-slot, by-create, by-remove, by-write, create-fits, remove-fits}
+use Rattle.tfs_laws.specs.Creates.{create-grant}
+use Rattle.tfs_laws.specs.Changes.{remove-is, remove-granted}
+use Rattle.tfs_laws.specs.Kept.{volume-end, three, by-create, by-remove, by-write, create-fits, remove-fits}
 
 -- a byte of a file lies inside the volume
 place-inside : (B : ℕ) → 0 < B → (img : List ℕ) → Sound B (view B img) → (s p : ℕ) → p < fileSize (view B img) s → place B (view B img) s p < blocks B img * B
@@ -258,11 +260,11 @@ module _ {B : ℕ} (size : BlockSize B) (a b : List ℕ) (same : SameVolume B a 
       (length-storeAll B xs a (fits-up B end (length a) end-a xs f)) (length-storeAll B xs b (fits-up B end (length b) (volume-end B b) xs f))
       (agree-stores B end xs a b f end-a (volume-end B b) agree)
 
-  same-outcome : (verdict : Verdict) (x : Answer) (xs : List Store) → (verdict ≡ consistent → granted x ≡ true → Fits B end xs) → SameVolume B (checkedOutcome verdict a (stored B a x xs) .image) (checkedOutcome verdict b (stored B b x xs) .image)
+  same-outcome : (verdict : Verdict) (x : Answer) (xs : List Store) → (verdict ≡ consistent → T (granted x) → Fits B end xs) → SameVolume B (checkedOutcome verdict a (stored B a x xs) .image) (checkedOutcome verdict b (stored B b x xs) .image)
   same-outcome consistent x xs f = go (granted x) (λ e. f refl e)
     where
-      go : (g : Bool) → (g ≡ true → Fits B end xs) → SameVolume B (cond g (storeAll B a xs) a) (cond g (storeAll B b xs) b)
-      go true f = same-stored xs (f refl)
+      go : (g : Bool) → (T g → Fits B end xs) → SameVolume B (cond g (storeAll B a xs) a) (cond g (storeAll B b xs) b)
+      go true f = same-stored xs (f tt)
       go false f = same
   same-outcome (broken num p) x xs f = same
 
@@ -281,7 +283,7 @@ module _ {B : ℕ} (size : BlockSize B) (a b : List ℕ) (same : SameVolume B a 
       subst (λ (x : List ℕ). SameVolume B x (create B b nm sz .image))
       (sym (alike (λ (x : Verdict) (v : View). checkedOutcome x a (stored B a (createView B v nm sz) (createStores B v nm sz)) .image) (λ num p v w. refl)))
       (same-outcome (check B b) (createView B (view B b) nm sz) (createStores B (view B b) nm sz)
-      (λ e g. create-fits size b nm sz e (create-slot B (view B b) nm sz g)))
+      (λ e g. create-fits size b nm sz e (create-grant B (view B b) nm sz g)))
 
   remove-same : (nm : List ℕ) → SameVolume B (remove B a nm .image) (remove B b nm .image)
   unfolding remove
@@ -289,7 +291,7 @@ module _ {B : ℕ} (size : BlockSize B) (a b : List ℕ) (same : SameVolume B a 
       subst (λ (x : List ℕ). SameVolume B x (remove B b nm .image))
       (sym (alike (λ (x : Verdict) (v : View). checkedOutcome x a (stored B a (removeView B v nm) (removeStores B v nm)) .image) (λ num p v w. refl)))
       (same-outcome (check B b) (removeView B (view B b) nm) (removeStores B (view B b) nm)
-      (λ e g. remove-fits B size b (check-means B size b .0 e) nm (remove-slot B (view B b) nm g)))
+      (λ e g. remove-fits B size b (check-means B size b .0 e) nm (remove-granted B b e nm (subst (λ (o : Outcome). T (granted (o .answer))) (sym (remove-is B b e nm)) g))))
 
   module _ (h o : ℕ) (buf : List ℕ) where
     abbrev written : List ℕ → Verdict → View → Outcome
