@@ -131,6 +131,7 @@ module _ (B : ℕ) (v : View) (clear : (s : ℕ) → T (free v s)) where
   no-owner : (s : ℕ) → File B v s → ⊥
   no-owner s f = T-not (free v s) (f .taken) (clear s)
 
+  -- is sound where the map marks blocks 0 to 2 alone
   pub sound-empty : ((b : ℕ) → T (mapBit (v .map) b) → b < 3) → ((b : ℕ) → b < 3 → T (mapBit (v .map) b)) → Sound B v
   sound-empty low high =
       record {

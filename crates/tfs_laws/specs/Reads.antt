@@ -18,6 +18,7 @@ use Rattle.tfs_laws.specs.Names.{handle-hit}
 use Rattle.tfs_laws.specs.Creates.{grant-step}
 
 -- ---- a stretch of a table
+-- of a table, the elements from o on, the first c, and c of them from o on
 table-at : (f : ℕ → ℕ) (k j d e : ℕ) → k ≡ j → d ≡ e → table f k d ≡ table f j e
 table-at f k j d e p q = λ i. table f (p i) (q i)
 
@@ -54,6 +55,7 @@ transfer-core slot all size o n c e =
     same : value n ≡ value c → c ≡ n
     same d = cc
 
+-- what a count as the answer says
 pub transfer-means : (B : ℕ) (v : View) (h o len c : ℕ) → transferView B v h o len ≡ value c → Transfer B v h o len c
 unfolding transferView counted
 transfer-means B v h o len c e =
@@ -77,12 +79,12 @@ read-left consistent a full buf e = ap (λ (x : Bool). cond x full buf) e
 read-left (broken num p) a full buf e = refl
 
 module _ (B : ℕ) (img : List ℕ) (h o : ℕ) (buf : List ℕ) where
+  -- of every granted read
   pub read-law : (c : ℕ) → read B img h o buf .answer ≡ value c → ReadLaw B img h o buf c
   unfolding read readBuffer counted content
   read-law c e =
       let v : View = view B img in
       let s : ℕ = slotWith B v h in
-      let n : ℕ = min (length buf) (size v s - o) in
       let f : ℕ → ℕ = λ p. getD img (place B v s p) 0 in
       let r = read-granted (check B img) (transferView B v h o (length buf)) (readBuffer B v img s o buf) buf c e in
       let t : Transfer B v h o (length buf) c = transfer-means B v h o (length buf) c (r .0) in
