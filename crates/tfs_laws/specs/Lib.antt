@@ -18,3 +18,7 @@ pub mod Changes
 pub mod Orders
 pub mod CreateRemove
 pub mod Laws
+pub mod Formats
+pub mod Reads
+pub mod Kept
+pub mod Tail

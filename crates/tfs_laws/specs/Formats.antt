@@ -1,0 +1,252 @@
+-- Format leaves a consistent volume with no file in it, and changes nothing past block 2.
+use mathlib.Core.Path.{_≡_, refl, sym, ap, _∙_, subst}
+use mathlib.Core.Logic.{inl, inr, ⊎-elim}
+use mathlib.Core.Bool.{true, false, not, _&&_}
+use mathlib.Core.Option.{none}
+use Prim.Native.Nat.{ℕ, zero, suc, _+_, _-_, _*_, _%_, _≤_, _<_}
+use mathlib.Core.List.{List, [], _∷_, _++_}
+use native.Mathlib.Omega.{arith}
+use native.Mathlib.Decide.{decLt}
+use lib.ListN.{length, getD, drop, length-take, length-replicate}
+use lib.Seq.{take-all, getD-append-add}
+use lib.Dec.{T, ltb, eqb, ltb→lt, nltb→le, T-not}
+use Rattle.lists.specs.Test.{allZero, by-test, cond-yes, cond-no, and-of, and-l, no-and, yes-yes, eqb-of, of-true}
+use Rattle.lists.specs.Least.{least-all}
+use Rattle.lists.specs.Name.{zeros, padTo}
+use Rattle.lists.specs.Part.{part, getD-part, getD-with-after}
+use Rattle.lists.specs.Word.{word, bytes4, word-bytes4}
+use Rattle.lists.specs.Bits.{bitOf}
+use Rattle.tfs_rules.specs.Layout.{BlockSize, slots, block, setBlock, magic, volumeName, mapByte, mapBit, setBits, slot, slotFree, labelAllowed, sameName}
+use Rattle.tfs_rules.specs.View.{View, view, free, name, slotOf, contents}
+use Rattle.tfs_rules.specs.Check.{tooShort}
+use Rattle.tfs_rules.specs.Consistent.{File, Sound, Consistent}
+use Rattle.tfs_rules.specs.Claims.{slotIn, owns-file}
+use Rattle.tfs_rules.specs.Requests.{done, granted, Outcome, Store, store, storeAll, refuse, formatStores, format}
+use Rattle.tfs_laws.specs.Views.{zero-bytes, view-head, view-map, view-dir}
+use Rattle.tfs_laws.specs.Stores.{length-setBlock, Fits, Away, length-storeAll, stored-first}
+use Rattle.tfs_laws.specs.Entries.{length-pad, zeros-zero}
+use Rattle.tfs_laws.specs.Others.{stands-not}
+use Rattle.tfs_laws.specs.MapBits.{In, Mapped, length-setBits, bits-kept, bits-set}
+
+-- ---- zeros
+zeros-byte : (n i : ℕ) → getD (zeros n) i 0 ≡ 0
+zeros-byte n i = zero-bytes (zeros n) (zeros-zero n) i
+
+all-zero : (l : List ℕ) → ((i : ℕ) → i < length l → getD l i 0 ≡ 0) → T (allZero l)
+all-zero [] h = tt
+all-zero (x ∷ xs) h = and-of (eqb x 0) (allZero xs) (eqb-of (h 0 (omega arith))) (all-zero xs (λ i l. h (suc i) (omega arith)))
+
+zero-bit : (k : ℕ) → bitOf 0 k ≡ 0
+unfolding bitOf
+zero-bit zero = refl
+zero-bit (suc k) = zero-bit k
+
+-- no block is marked in a map of zeros
+zeros-clear : (n b : ℕ) → mapBit (zeros n) b ≡ false
+unfolding mapBit
+zeros-clear n b = ap (λ (x : ℕ). eqb (bitOf x (b % 8)) 1) (zeros-byte n (mapByte b)) ∙ ap (λ (x : ℕ). eqb x 1) (zero-bit (b % 8))
+
+-- each slot of a directory of zeros is free
+zeros-free : (n s : ℕ) → T (slotFree (slot (zeros n) s))
+unfolding slotFree slot part
+zeros-free n s =
+    all-zero (part (s * 20) 20 (zeros n))
+    (λ i l. getD-part (s * 20) 20 (zeros n) i (omega (arith, length-take 20 (drop (s * 20) (zeros n)))) ∙ zeros-byte n (s * 20 + i))
+
+-- ---- stores that end at len or before
+pub fits-up : (B len more : ℕ) → len ≤ more → (xs : List Store) → Fits B len xs → Fits B more xs
+fits-up B len more h [] f = tt
+fits-up B len more h (x ∷ xs) f = (f .0, (omega (arith, f .1 .0), fits-up B len more h xs (f .1 .1)))
+
+-- keep every byte from len on
+pub stored-past : (B len : ℕ) (xs : List Store) (img : List ℕ) (q : ℕ) → Fits B len xs → len ≤ length img → len ≤ q → getD (storeAll B img xs) q 0 ≡ getD img q 0
+unfolding setBlock
+stored-past B len [] img q f h l = refl
+stored-past B len (x ∷ xs) img q f h l =
+    let k : x .at * B + B ≤ length img = omega (arith, f .1 .0) in
+    stored-past B len xs (setBlock B img (x .at) (x .bytes)) q (f .1 .1) (omega (arith, length-setBlock B img (x .at) (x .bytes) (f .0) k)) l
+    ∙ getD-with-after (x .at * B) B (x .bytes) img (f .0) k q (omega (arith, f .1 .0))
+
+-- a store that no later one touches
+pub stored-at : (B : ℕ) (xs : List Store) (x : Store) (ys : List Store) (img : List ℕ) → Fits B (length img) (xs ++ (x ∷ ys)) → Away (x .at) ys → block B (storeAll B img (xs ++ (x ∷ ys))) (x .at) ≡ x .bytes
+stored-at B [] x ys img f a = stored-first B x ys img f a
+stored-at B (y ∷ xs) x ys img f a =
+    let l : length (setBlock B img (y .at) (y .bytes)) ≡ length img = length-setBlock B img (y .at) (y .bytes) (f .0) (f .1 .0) in
+    stored-at B xs x ys (setBlock B img (y .at) (y .bytes)) (subst (λ (n : ℕ). Fits B n (xs ++ (x ∷ ys))) (sym l) (f .1 .1)) a
+
+-- ---- what format stores
+abbrev formatHead : ℕ → List ℕ → List ℕ
+formatHead B label = bytes4 magic ++ padTo (B - 4) label
+
+abbrev formatMap : ℕ → List ℕ
+formatMap B = setBits (zeros B) 1 (0 ∷ 1 ∷ 2 ∷ [])
+
+-- the zero that ends the label
+head-end : (B : ℕ) (label : List ℕ) → 512 ≤ B → length label < 16 → getD (volumeName (formatHead B label)) (length label) 0 ≡ 0
+head-end B label h l =
+    getD-part 4 16 (formatHead B label) (length label) l
+    ∙ ap (λ (i : ℕ). getD (formatHead B label) i 0) at
+    ∙ ap (λ (x : List ℕ). getD (x ++ zeros (B - 4 - length label)) (length label) 0) (take-all (B - 4) label (omega arith))
+    ∙ ap (λ (i : ℕ). getD (label ++ zeros (B - 4 - length label)) i 0) last
+    ∙ getD-append-add label (zeros (B - 4 - length label)) 0 0
+    ∙ zeros-byte (B - 4 - length label) 0
+  where
+    at : 4 + length label ≡ suc (suc (suc (suc (length label))))
+    at = omega arith
+
+    last : length label ≡ length label + 0
+    last = omega arith
+
+-- the map marks blocks 0 to 2
+map-three : (B : ℕ) → 512 ≤ B → Mapped (length (zeros B)) (0 ∷ 1 ∷ 2 ∷ [])
+map-three B h = rw (length-replicate {A = ℕ}) (omega arith)
+
+three-in : (b : ℕ) → b < 3 → In b (0 ∷ 1 ∷ 2 ∷ [])
+three-in zero h = inl refl
+three-in (suc zero) h = inr (inl refl)
+three-in (suc (suc zero)) h = inr (inr (inl refl))
+three-in (suc (suc (suc b))) h = absurd (omega arith)
+
+in-three : (b : ℕ) → In b (0 ∷ 1 ∷ 2 ∷ []) → b < 3
+in-three b i = ⊎-elim (λ e. omega arith) (⊎-elim (λ e. omega arith) (⊎-elim (λ e. omega arith) (λ e. absurd e))) i
+
+marked-low : (B b : ℕ) → 512 ≤ B → b < 3 → T (mapBit (formatMap B) b)
+marked-low B b h l = of-true (mapBit (formatMap B) b) (bits-set 1 (omega arith) (0 ∷ 1 ∷ 2 ∷ []) (zeros B) (map-three B h) b (three-in b l))
+
+low-marked : (B b : ℕ) → 512 ≤ B → T (mapBit (formatMap B) b) → b < 3
+low-marked B b h t =
+    elim (decLt b 3) [
+      | yes l ↦ l
+      | no l ↦
+          absurd (subst T (bits-kept 1 (omega arith) (0 ∷ 1 ∷ 2 ∷ []) (zeros B) (map-three B h) b (λ i. l (in-three b i)) ∙ zeros-clear B b) t)
+    ]
+
+-- a label that is allowed leaves room for its zero
+label-short : (label : List ℕ) → T (labelAllowed label) → length label < 16
+unfolding labelAllowed
+label-short label t = ltb→lt (length label) 16 (and-l (ltb (length label) 16) _ t)
+
+-- ---- a volume with no file
+module _ (B : ℕ) (v : View) (clear : (s : ℕ) → T (free v s)) where
+  no-owner : (s : ℕ) → File B v s → ⊥
+  no-owner s f = T-not (free v s) (f .taken) (clear s)
+
+  -- is sound where the map marks blocks 0 to 2 alone
+  pub sound-empty : ((b : ℕ) → T (mapBit (v .map) b) → b < 3) → ((b : ℕ) → b < 3 → T (mapBit (v .map) b)) → Sound B v
+  sound-empty low high =
+      record {
+        formed = λ s l. inl (clear s);
+        apart = λ s t f g e. absurd (no-owner s f);
+        small = λ s f. absurd (no-owner s f);
+        inside = λ s k f l. absurd (no-owner s f);
+        rest = λ s k f l h. absurd (no-owner s f);
+        once = λ b o p h g. absurd (no-owner (slotIn o) (owns-file B v b o h));
+        mapped = λ b l. (λ t. inl (low b t), ⊎-elim (high b) (λ w. absurd (no-owner (slotIn (w .0)) (owns-file B v b (w .0) (w .1)))));
+      }
+
+  pub slotOf-empty : (nm : List ℕ) → slotOf B v nm ≡ slots B
+  unfolding slotOf
+  slotOf-empty nm = least-all (λ s. not (free v s) && sameName (name v s) nm) (slots B) (λ s l. no-and (not (free v s)) _ (yes-yes (free v s) (clear s)))
+
+-- format stores to blocks 0 to 2
+pub format-fits : (B : ℕ) → BlockSize B → (label : List ℕ) → Fits B (3 * B) (formatStores B label)
+unfolding formatStores
+format-fits B size label = (
+  omega (arith, size .large, length-pad (B - 4) label),
+  (
+    omega arith,
+    (length-setBits (0 ∷ 1 ∷ 2 ∷ []) (zeros B) 1 ∙ length-replicate B 0, (omega arith, (length-replicate B 0, (omega arith, tt)))),
+  ),
+)
+
+module _ (B : ℕ) (size : BlockSize B) (img label : List ℕ) (long : 3 * B ≤ length img) where
+  abbrev pub formatted : List ℕ
+  formatted = storeAll B img (formatStores B label)
+
+  fits : Fits B (length img) (formatStores B label)
+  fits = fits-up B (3 * B) (length img) long (formatStores B label) (format-fits B size label)
+
+  pub formatted-length : length formatted ≡ length img
+  formatted-length = length-storeAll B (formatStores B label) img fits
+
+  pub formatted-past : (q : ℕ) → 3 * B ≤ q → getD formatted q 0 ≡ getD img q 0
+  formatted-past q h = stored-past B (3 * B) (formatStores B label) img q (format-fits B size label) long h
+
+  formatted-head : view B formatted .head ≡ formatHead B label
+  unfolding formatStores
+  formatted-head =
+      view-head B formatted ∙ stored-first B (store 0 (formatHead B label)) (store 1 (formatMap B) ∷ store 2 (zeros B) ∷ []) img fits (omega arith, (omega arith, tt))
+
+  formatted-map : view B formatted .map ≡ formatMap B
+  unfolding formatStores
+  formatted-map =
+      view-map B formatted
+      ∙ stored-at B (store 0 (formatHead B label) ∷ []) (store 1 (formatMap B)) (store 2 (zeros B) ∷ []) img fits (omega arith, tt)
+
+  formatted-dir : view B formatted .dir ≡ zeros B
+  unfolding formatStores
+  formatted-dir =
+      view-dir B formatted
+      ∙ stored-at B (store 0 (formatHead B label) ∷ store 1 (formatMap B) ∷ []) (store 2 (zeros B)) [] img fits tt
+
+  formatted-free : (s : ℕ) → T (free (view B formatted) s)
+  unfolding free
+  formatted-free s = subst (λ (d : List ℕ). T (slotFree (slot d s))) (sym formatted-dir) (zeros-free B s)
+
+  formatted-consistent : length label < 16 → Consistent B formatted
+  formatted-consistent l =
+      record {
+        long = rw formatted-length long;
+        magical = ap (λ (h : List ℕ). word h 0) formatted-head ∙ word-bytes4 magic (padTo (B - 4) label);
+        labelled = (length label, l, ap (λ (h : List ℕ). getD (volumeName h) (length label) 0) formatted-head ∙ head-end B label (size .large) l);
+        sound = sound-empty B (view B formatted) formatted-free
+            (λ b t. low-marked B b (size .large) (subst (λ (m : List ℕ). T (mapBit m b)) formatted-map t))
+            (λ b h. subst (λ (m : List ℕ). T (mapBit m b)) (sym formatted-map) (marked-low B b (size .large) h));
+      }
+
+  formatted-empty : (nm : List ℕ) → contents B formatted nm ≡ none
+  formatted-empty nm = stands-not B formatted nm (omega (arith, slotOf-empty B (view B formatted) formatted-free nm))
+
+-- ---- format, granted or refused
+-- what holds of each outcome that format can have
+pub by-format : (B : ℕ) (img label : List ℕ) (P : Outcome → Type 0) → (length img < 3 * B → P (refuse img 1)) → (T (not (labelAllowed label)) → P (refuse img 8)) → (3 * B ≤ length img → T (labelAllowed label) → P (record { answer = done; image = storeAll B img (formatStores B label) })) → P (format B img label)
+unfolding format tooShort
+by-format B img label P short bad full =
+    by-test (ltb (length img) (3 * B))
+    (λ t. subst P (sym (cond-yes (ltb (length img) (3 * B)) _ _ t)) (short (ltb→lt (length img) (3 * B) t)))
+    (λ t.
+    subst P (sym (cond-no (ltb (length img) (3 * B)) _ _ t))
+    (by-test (labelAllowed label)
+    (λ u. subst P (sym (cond-no (not (labelAllowed label)) _ _ (yes-yes (labelAllowed label) u))) (full (nltb→le (length img) (3 * B) t) u))
+    (λ u. subst P (sym (cond-yes (not (labelAllowed label)) _ _ u)) (bad u))))
+
+-- a refusal is no grant
+not-granted {ℓ} : {X : Type ℓ} → false ≡ true → X
+not-granted e = absurd (subst T (sym e) tt)
+
+module _ {B : ℕ} (size : BlockSize B) (img label : List ℕ) where
+  -- format grants every image of 3 blocks or more and every allowed label
+  pub format-grants : 3 * B ≤ length img → T (labelAllowed label) → format B img label .answer ≡ done
+  format-grants h t =
+      by-format B img label (λ o. o .answer ≡ done) (λ l. absurd (omega arith)) (λ u. absurd (T-not (labelAllowed label) u t)) (λ _ _. refl)
+
+  -- granted, it leaves a consistent volume
+  pub format-consistent : granted (format B img label .answer) ≡ true → Consistent B (format B img label .image)
+  format-consistent =
+      by-format B img label (λ o. granted (o .answer) ≡ true → Consistent B (o .image)) (λ _. not-granted) (λ _. not-granted)
+      (λ h t _. formatted-consistent B size img label h (label-short label t))
+
+  -- with no file in it
+  pub format-empty : granted (format B img label .answer) ≡ true → (nm : List ℕ) → contents B (format B img label .image) nm ≡ none
+  format-empty =
+      by-format B img label (λ o. granted (o .answer) ≡ true → (nm : List ℕ) → contents B (o .image) nm ≡ none) (λ _. not-granted) (λ _. not-granted)
+      (λ h t _. formatted-empty B size img label h)
+
+  -- "Later blocks are untouched", and so are the bytes past the last block
+  pub format-past : (q : ℕ) → 3 * B ≤ q → getD (format B img label .image) q 0 ≡ getD img q 0
+  format-past q l =
+      by-format B img label (λ o. getD (o .image) q 0 ≡ getD img q 0) (λ _. refl) (λ _. refl) (λ h t. formatted-past B size img label h q l)
+
+  pub format-length : length (format B img label .image) ≡ length img
+  format-length =
+      by-format B img label (λ o. length (o .image) ≡ length img) (λ _. refl) (λ _. refl) (λ h t. formatted-length B size img label h)

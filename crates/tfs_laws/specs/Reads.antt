@@ -1,0 +1,102 @@
+-- What read gives: the bytes of the file from the offset on, and the rest of the buffer as it was.
+use mathlib.Core.Path.{_≡_, refl, sym, ap, subst, _∙_}
+use mathlib.Core.Bool.{Bool, false, not, cond}
+use Prim.Native.Nat.{ℕ, zero, suc, _+_, _-_, _≤_, _<_, min}
+use mathlib.Core.List.{List, _∷_, _++_}
+use native.Mathlib.Omega.{arith}
+use native.Mathlib.Nat.{zero-add}
+use lib.ListN.{length, getD, take, drop}
+use lib.Dec.{T, ltb, ltb→lt, nltb→le}
+use Rattle.lists.specs.Test.{cond-no, not-not}
+use Rattle.lists.specs.Table.{table}
+use Rattle.tfs_rules.specs.Layout.{slots}
+use Rattle.tfs_rules.specs.View.{View, view, inode, size, slotWith, place, content}
+use Rattle.tfs_rules.specs.Check.{Verdict, consistent, broken, check}
+use Rattle.tfs_rules.specs.Consistent.{File}
+use Rattle.tfs_rules.specs.Requests.{Answer, value, refused, granted, checkedFilled, counted, transferView, readBuffer, read}
+use Rattle.tfs_laws.specs.Names.{handle-hit}
+use Rattle.tfs_laws.specs.Creates.{grant-step}
+
+-- ---- a stretch of a table
+-- of a table, the elements from o on, the first c, and c of them from o on
+table-at : (f : ℕ → ℕ) (k j d e : ℕ) → k ≡ j → d ≡ e → table f k d ≡ table f j e
+table-at f k j d e p q = λ i. table f (p i) (q i)
+
+drop-table : (f : ℕ → ℕ) (o k d : ℕ) → drop o (table f k d) ≡ table f (k + o) (d - o)
+drop-table f zero k d = table-at f k (k + 0) d (d - 0) (omega arith) (omega arith)
+drop-table f (suc o) k zero = table-at f (k + suc o) (k + suc o) 0 (0 - suc o) refl (omega arith)
+drop-table f (suc o) k (suc d) = drop-table f o (suc k) d ∙ table-at f (suc k + o) (k + suc o) (d - o) (suc d - suc o) (omega arith) (omega arith)
+
+take-table : (f : ℕ → ℕ) (c k d : ℕ) → c ≤ d → take c (table f k d) ≡ table f k c
+take-table f zero k d h = refl
+take-table f (suc c) k zero h = absurd (omega arith)
+take-table f (suc c) k (suc d) h = ap (λ (l : List ℕ). f k ∷ l) (take-table f c (suc k) d (omega arith))
+
+table-stretch : (f : ℕ → ℕ) (o c d : ℕ) → c ≤ d - o → table f o c ≡ take c (drop o (table f 0 d))
+table-stretch f o c d h = sym (ap (take c) (drop-table f o 0 d ∙ ap (λ (j : ℕ). table f j (d - o)) (zero-add o)) ∙ take-table f c o (d - o) h)
+
+-- ---- a granted transfer
+pub record Transfer (B : ℕ) (v : View) (h o len c : ℕ) : Type 0 where
+  -- the handle is the inode number of a file
+  pub file : File B v (slotWith B v h)
+  pub handle : inode v (slotWith B v h) ≡ h
+  -- the offset is not past its end
+  pub within : o ≤ size v (slotWith B v h)
+  -- "count = smaller of buffer length and size − offset"
+  pub count : c ≡ min len (size v (slotWith B v h) - o)
+
+-- the answer is a count only where neither 14 nor 15 is given
+transfer-core : (slot all size o n c : ℕ) → cond (not (ltb slot all)) (refused 14 0) (cond (ltb size o) (refused 15 0) (value n)) ≡ value c → (slot < all) × (o ≤ size) × (c ≡ n)
+transfer-core slot all size o n c e =
+    let g14 = grant-step (not (ltb slot all)) 14 (cond (ltb size o) (refused 15 0) (value n)) (subst (λ (x : Answer). T (granted x)) (sym e) tt) in
+    let g15 = grant-step (ltb size o) 15 (value n) (g14 .1) in
+    (ltb→lt slot all (not-not (ltb slot all) (g14 .0)), nltb→le size o (g15 .0), same (sym (cond-no (not (ltb slot all)) _ _ (g14 .0) ∙ cond-no (ltb size o) (refused 15 0) (value n) (g15 .0)) ∙ e))
+  where
+    same : value n ≡ value c → c ≡ n
+    same d = cc
+
+-- what a count as the answer says
+pub transfer-means : (B : ℕ) (v : View) (h o len c : ℕ) → transferView B v h o len ≡ value c → Transfer B v h o len c
+unfolding transferView counted
+transfer-means B v h o len c e =
+    let s : ℕ = slotWith B v h in
+    let r : (s < slots B) × (o ≤ size v s) × (c ≡ min len (size v s - o)) = transfer-core s (slots B) (size v s) o (min len (size v s - o)) c e in
+    let hit : File B v s × (inode v s ≡ h) = handle-hit B v h (r .0) in
+    record { file = hit .0; handle = hit .1; within = r .1; count = r .2 }
+
+-- ---- read
+-- granted, read gives the bytes of the file from the offset on and "leaves the rest of the buffer"
+pub record ReadLaw (B : ℕ) (img : List ℕ) (h o : ℕ) (buf : List ℕ) (c : ℕ) : Type 0 where
+  pub transfer : Transfer B (view B img) h o (length buf) c
+  pub buffer : read B img h o buf .buffer ≡ take c (drop o (content B (view B img) img (slotWith B (view B img) h))) ++ drop c buf
+
+read-granted : (verdict : Verdict) (a : Answer) (full buf : List ℕ) (c : ℕ) → checkedFilled verdict buf (record { answer = a; buffer = cond (granted a) full buf }) .answer ≡ value c → (a ≡ value c) × (checkedFilled verdict buf (record { answer = a; buffer = cond (granted a) full buf }) .buffer ≡ full)
+read-granted consistent a full buf c e = (e, ap (λ (x : Answer). cond (granted x) full buf) e)
+read-granted (broken num p) a full buf c e = absurd (let z : _≡_ {A = ℕ} 0 1 = cc in omega arith)
+
+read-left : (verdict : Verdict) (a : Answer) (full buf : List ℕ) → granted (checkedFilled verdict buf (record { answer = a; buffer = cond (granted a) full buf }) .answer) ≡ false → checkedFilled verdict buf (record { answer = a; buffer = cond (granted a) full buf }) .buffer ≡ buf
+read-left consistent a full buf e = ap (λ (x : Bool). cond x full buf) e
+read-left (broken num p) a full buf e = refl
+
+module _ (B : ℕ) (img : List ℕ) (h o : ℕ) (buf : List ℕ) where
+  -- of every granted read
+  pub read-law : (c : ℕ) → read B img h o buf .answer ≡ value c → ReadLaw B img h o buf c
+  unfolding read readBuffer counted content
+  read-law c e =
+      let v : View = view B img in
+      let s : ℕ = slotWith B v h in
+      let f : ℕ → ℕ = λ p. getD img (place B v s p) 0 in
+      let r = read-granted (check B img) (transferView B v h o (length buf)) (readBuffer B v img s o buf) buf c e in
+      let t : Transfer B v h o (length buf) c = transfer-means B v h o (length buf) c (r .0) in
+      record {
+        transfer = t;
+        buffer = r .1
+            ∙ ap (λ (k : ℕ). table f o k ++ drop k buf) (sym (t .count))
+            ∙ ap (λ (x : List ℕ). x ++ drop c buf) (table-stretch f o c (size v s) (omega (arith, t .count)));
+      }
+
+  -- "A refusal leaves .. lent buffers unchanged"
+  pub read-refused : granted (read B img h o buf .answer) ≡ false → read B img h o buf .buffer ≡ buf
+  unfolding read
+  read-refused e =
+      read-left (check B img) (transferView B (view B img) h o (length buf)) (readBuffer B (view B img) img (slotWith B (view B img) h) o buf) buf e
