@@ -22,3 +22,4 @@ pub mod Formats
 pub mod Reads
 pub mod Kept
 pub mod Tail
+pub mod Ignored
