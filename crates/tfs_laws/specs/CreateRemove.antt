@@ -72,12 +72,13 @@ module _ (B : ℕ) (sz : BlockSize B) (img : List ℕ) (ok : Consistent B img) (
   abbrev s : ℕ
   s = freeSlot B v
 
-  at-slot : slotOf B v′ nm ≡ s
+  -- the created name is in that slot
+  pub at-slot : slotOf B v′ nm ≡ s
   at-slot =
       slot-is B v′ nm (made.apart′ B sz img ok nm z gr) s (made.new-file B sz img ok nm z gr)
       (subst (λ (x : List ℕ). T (Rattle.tfs_rules.specs.Layout.sameName x nm)) (sym (made.new-name B sz img ok nm z gr)) (name-refl nm))
 
-  hit : slotOf B v′ nm < slots B
+  pub hit : slotOf B v′ nm < slots B
   hit = subst (λ (x : ℕ). x < slots B) (sym at-slot) (gr .slot)
 
   -- the created file claims the chosen blocks

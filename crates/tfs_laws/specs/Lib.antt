@@ -17,6 +17,7 @@ pub mod WriteContents
 pub mod Changes
 pub mod Orders
 pub mod CreateRemove
+pub mod Handles
 pub mod Laws
 pub mod Formats
 pub mod Reads
