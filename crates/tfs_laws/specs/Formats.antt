@@ -1,7 +1,7 @@
 -- Format leaves a consistent volume with no file in it, and changes nothing past block 2.
 use mathlib.Core.Path.{_≡_, refl, sym, ap, _∙_, subst}
 use mathlib.Core.Logic.{inl, inr, ⊎-elim}
-use mathlib.Core.Bool.{true, false, not, _&&_}
+use mathlib.Core.Bool.{false, not, _&&_}
 use mathlib.Core.Option.{none}
 use Prim.Native.Nat.{ℕ, zero, suc, _+_, _-_, _*_, _%_, _≤_, _<_}
 use mathlib.Core.List.{List, [], _∷_, _++_}
@@ -220,9 +220,10 @@ by-format B img label P short bad full =
     (λ u. subst P (sym (cond-no (not (labelAllowed label)) _ _ (yes-yes (labelAllowed label) u))) (full (nltb→le (length img) (3 * B) t) u))
     (λ u. subst P (sym (cond-yes (not (labelAllowed label)) _ _ u)) (bad u))))
 
--- a refusal is no grant
-not-granted {ℓ} : {X : Type ℓ} → false ≡ true → X
-not-granted e = absurd (subst T (sym e) tt)
+-- "A refusal leaves the image .. unchanged"
+pub format-refused : (B : ℕ) (img label : List ℕ) → T (not (granted (format B img label .answer))) → format B img label .image ≡ img
+format-refused B img label =
+    by-format B img label (λ o. T (not (granted (o .answer))) → o .image ≡ img) (λ _ _. refl) (λ _ _. refl) (λ _ _ g. absurd g)
 
 module _ {B : ℕ} (size : BlockSize B) (img label : List ℕ) where
   -- format grants every image of 3 blocks or more and every allowed label
@@ -231,15 +232,15 @@ module _ {B : ℕ} (size : BlockSize B) (img label : List ℕ) where
       by-format B img label (λ o. o .answer ≡ done) (λ l. absurd (omega arith)) (λ u. absurd (T-not (labelAllowed label) u t)) (λ _ _. refl)
 
   -- granted, it leaves a consistent volume
-  pub format-consistent : granted (format B img label .answer) ≡ true → Consistent B (format B img label .image)
+  pub format-consistent : T (granted (format B img label .answer)) → Consistent B (format B img label .image)
   format-consistent =
-      by-format B img label (λ o. granted (o .answer) ≡ true → Consistent B (o .image)) (λ _. not-granted) (λ _. not-granted)
+      by-format B img label (λ o. T (granted (o .answer)) → Consistent B (o .image)) (λ _ g. absurd g) (λ _ g. absurd g)
       (λ h t _. formatted-consistent B size img label h (label-short label t))
 
   -- with no file in it
-  pub format-empty : granted (format B img label .answer) ≡ true → (nm : List ℕ) → contents B (format B img label .image) nm ≡ none
+  pub format-empty : T (granted (format B img label .answer)) → (nm : List ℕ) → contents B (format B img label .image) nm ≡ none
   format-empty =
-      by-format B img label (λ o. granted (o .answer) ≡ true → (nm : List ℕ) → contents B (o .image) nm ≡ none) (λ _. not-granted) (λ _. not-granted)
+      by-format B img label (λ o. T (granted (o .answer)) → (nm : List ℕ) → contents B (o .image) nm ≡ none) (λ _ g. absurd g) (λ _ g. absurd g)
       (λ h t _. formatted-empty B size img label h)
 
   -- "Later blocks are untouched", and so are the bytes past the last block
