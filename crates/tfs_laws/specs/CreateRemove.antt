@@ -9,7 +9,7 @@ use lib.ListN.{length, getD, length-replicate, getD-replicate}
 use lib.Seq.{ext-getD}
 use lib.Dec.{T, ltb, lt→ltb}
 use Rattle.lists.specs.Name.{zeros}
-use Rattle.lists.specs.Test.{allZero, cond-no, yes-yes}
+use Rattle.lists.specs.Test.{allZero, zero-bytes, cond-no, yes-yes}
 use Rattle.lists.specs.Table.{table, table-cong, table-getD}
 use Rattle.lists.specs.Part.{part, withPart, length-part, with-with, with-same}
 use Rattle.tfs_rules.specs.Layout.{BlockSize, slots, block, slot, setSlot, setBits, mapBit, need, entry, slotFree, nameAllowed}
@@ -18,7 +18,7 @@ use Rattle.tfs_rules.specs.Check.{consistent, fileClaims}
 use Rattle.tfs_rules.specs.Consistent.{File, Consistent}
 use Rattle.tfs_rules.specs.CheckMeans.{check-means}
 use Rattle.tfs_rules.specs.Requests.{Answer, done, refused, granted, Outcome, storeAll, create, createStores, chosen, removeView, removeStores, remove, stored}
-use Rattle.tfs_laws.specs.Views.{view-dir, view-map, zero-bytes}
+use Rattle.tfs_laws.specs.Views.{view-dir, view-map}
 use Rattle.tfs_laws.specs.MapBits.{In, in-at, Distinct, setBits-undo}
 use Rattle.tfs_laws.specs.Names.{slot-is, free-hit, claims-is, name-refl}
 use Rattle.tfs_laws.specs.Entries.{length-entry, allowed}

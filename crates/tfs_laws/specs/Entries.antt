@@ -8,13 +8,13 @@ use native.Mathlib.Omega.{arith}
 use lib.ListN.{length, getD, take, drop, length-append, length-take, length-replicate, List·getD-append, getD-replicate, List·getD-eq-default}
 use lib.Seq.{take-all, take-at, drop-at, getD-append-add}
 use lib.Dec.{T, leb, ltb, eqb, leb→le, ltb→lt, eqb→eq, le→leb, lt→ltb, T-not, not-T}
-use Rattle.lists.specs.Test.{allZero, and-of, and-l, and-r, eqb-of, neqb-of}
+use Rattle.lists.specs.Test.{allZero, zero-bytes, and-of, and-l, and-r, eqb-of, neqb-of}
 use Rattle.lists.specs.Least.{least, least-is, least-below}
 use Rattle.lists.specs.Name.{zeros, zeroAt, firstZero, upToZero, padTo}
 use Rattle.lists.specs.Word.{word, bytes4, words, length-words, words-at, word-bytes4, word-skip}
 use Rattle.lists.specs.Part.{part}
 use Rattle.tfs_rules.specs.Layout.{slotInode, nameField, slotName, slotFree, slotUsed, nameFormed, inRange, entry, inodeSize, inodeNumber, inodeBlock, labelAllowed, nameAllowed}
-use Rattle.tfs_laws.specs.Views.{zero-bytes, zero-word}
+use Rattle.tfs_laws.specs.Views.{zero-word}
 
 pub length-pad : (n : ℕ) (l : List ℕ) → length (padTo n l) ≡ n
 length-pad n l = simp (length-append, length-take, length-replicate) (omega arith)

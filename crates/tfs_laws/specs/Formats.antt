@@ -10,7 +10,7 @@ use native.Mathlib.Decide.{decLt}
 use lib.ListN.{length, getD, drop, length-take, length-replicate}
 use lib.Seq.{take-all, getD-append-add}
 use lib.Dec.{T, ltb, eqb, ltb→lt, nltb→le, T-not}
-use Rattle.lists.specs.Test.{allZero, by-test, cond-yes, cond-no, and-of, and-l, no-and, yes-yes, eqb-of, of-true}
+use Rattle.lists.specs.Test.{zero-bytes, all-zero, by-test, cond-yes, cond-no, and-of, and-l, no-and, yes-yes, eqb-of, of-true}
 use Rattle.lists.specs.Least.{least-all}
 use Rattle.lists.specs.Name.{zeros, padTo}
 use Rattle.lists.specs.Part.{part, getD-part, getD-with-after}
@@ -22,7 +22,7 @@ use Rattle.tfs_rules.specs.Check.{tooShort}
 use Rattle.tfs_rules.specs.Consistent.{File, Sound, Consistent}
 use Rattle.tfs_rules.specs.Claims.{slotIn, owns-file}
 use Rattle.tfs_rules.specs.Requests.{done, granted, Outcome, Store, store, storeAll, refuse, formatStores, format}
-use Rattle.tfs_laws.specs.Views.{zero-bytes, view-head, view-map, view-dir}
+use Rattle.tfs_laws.specs.Views.{view-head, view-map, view-dir}
 use Rattle.tfs_laws.specs.Stores.{length-setBlock, Fits, Away, length-storeAll, stored-first}
 use Rattle.tfs_laws.specs.Entries.{length-pad, zeros-zero}
 use Rattle.tfs_laws.specs.Others.{stands-not}
@@ -31,10 +31,6 @@ use Rattle.tfs_laws.specs.MapBits.{In, Mapped, length-setBits, bits-kept
 -- ---- zeros
 zeros-byte : (n i : ℕ) → getD (zeros n) i 0 ≡ 0
 zeros-byte n i = zero-bytes (zeros n) (zeros-zero n) i
-
-all-zero : (l : List ℕ) → ((i : ℕ) → i < length l → getD l i 0 ≡ 0) → T (allZero l)
-all-zero [] h = tt
-all-zero (x ∷ xs) h = and-of (eqb x 0) (allZero xs) (eqb-of (h 0 (omega arith))) (all-zero xs (λ i l. h (suc i) (omega arith)))
 
 zero-bit : (k : ℕ) → bitOf 0 k ≡ 0
 unfolding bitOf
