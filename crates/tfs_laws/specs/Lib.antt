@@ -24,3 +24,4 @@ pub mod Reads
 pub mod Kept
 pub mod Tail
 pub mod Ignored
+pub mod Demands
