@@ -10,7 +10,7 @@ use native.Mathlib.Decide.{decLt}
 use lib.ListN.{length, getD, drop, length-take, length-replicate}
 use lib.Seq.{take-all, getD-append-add}
 use lib.Dec.{T, ltb, eqb, ltb→lt, nltb→le, T-not}
-use Rattle.lists.specs.Test.{zero-bytes, all-zero, by-test, cond-yes, cond-no, and-of, and-l, no-and, yes-yes, eqb-of, of-true}
+use Rattle.lists.specs.Test.{zero-bytes, all-zero, by-test, cond-yes, cond-no, and-l, no-and, yes-yes, of-true}
 use Rattle.lists.specs.Least.{least-all}
 use Rattle.lists.specs.Name.{zeros, padTo}
 use Rattle.lists.specs.Part.{part, getD-part, getD-with-after}
