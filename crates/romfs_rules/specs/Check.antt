@@ -4,7 +4,7 @@ use mathlib.Core.Bool.{Bool, true, false, not, cond, _&&_, _||_}
 use mathlib.Core.List.{List}
 use lib.Dec.{leb, ltb, eqb}
 use Rattle.lists.specs.Least.{least}
-use Rattle.romfs_rules.specs.Layout.{fullSize, firstRoot, kind, next, info, own, isDots, hasList}
+use Rattle.romfs_rules.specs.Layout.{fullSize, firstRoot, kind, next, info, own, isDots, descends, hasList}
 use Rattle.romfs_rules.specs.Rules.{Verdict, accepted, refused, short21, magic22, size23, sum24, name25, fault}
 
 -- the first refusal of two
@@ -37,14 +37,22 @@ visitAll s test =
 unfoldable pub walk : List ℕ → Verdict
 walk s = visitAll s (fault s)
 
--- Whether want is a reached header, by going down one path: offsets rise along it. The number is fuel.
+-- whether an offset is a header's at or before want
+unfoldable pub leads : ℕ → ℕ → Bool
+leads to want = not (eqb to 0) && leb to want
+
+-- where the path to want goes on from p, since offsets rise along the walk: to next, to the first header of p's list, or nowhere (0)
+unfoldable pub towards : List ℕ → ℕ → ℕ → ℕ
+towards s want p =
+    cond (leads (next s p) want) (next s p)
+    (cond (descends s p && leads (info s p) want) (info s p) 0)
+
+-- Whether want is a reached header, by going down one path. The number is fuel.
 unfoldable pub seek : List ℕ → ℕ → ℕ → ℕ → Bool
 seek s want zero p = false
 seek s want (suc fuel) p =
-    let there : Bool = seek s want fuel (next s p) in
-    let under : Bool = seek s want fuel (info s p) in
-    let down : Bool = cond (hasList s p && leb (info s p) want) under false in
-    let on : Bool = cond (not (eqb (next s p) 0) && leb (next s p) want) there down in
+    let there : Bool = seek s want fuel (towards s want p) in
+    let on : Bool = cond (eqb (towards s want p) 0) false there in
     cond (eqb want p) true on
 
 unfoldable pub isReached : List ℕ → ℕ → Bool

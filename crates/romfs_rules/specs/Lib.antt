@@ -3,4 +3,8 @@ pub mod Rules
 pub mod Reached
 pub mod Check
 pub mod Answers
+pub mod Facts
+pub mod Visit
+pub mod Lowest
+pub mod Walked
 pub mod Example
