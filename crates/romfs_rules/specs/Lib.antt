@@ -7,4 +7,6 @@ pub mod Facts
 pub mod Visit
 pub mod Lowest
 pub mod Walked
+pub mod Seek
+pub mod Links
 pub mod Example
