@@ -9,4 +9,5 @@ pub mod Lowest
 pub mod Walked
 pub mod Seek
 pub mod Links
+pub mod Theorems
 pub mod Example

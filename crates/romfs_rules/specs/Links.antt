@@ -6,7 +6,7 @@ use mathlib.Core.Bool.{Bool, true, false, not, cond, _&&_, _||_}
 use mathlib.Core.List.{List}
 use native.Mathlib.Omega.{arith}
 use native.Mathlib.Decide.{ℕ-discrete, decLt}
-use borrow.Author.Tests.{eq-eqb, ne-eqb, eqb-true, eqb-false, lt-ltb, le-ltb, not-false, not-true}
+use borrow.Author.Tests.{eq-eqb, ne-eqb, eqb-true, eqb-false, lt-ltb, le-ltb, ltb-true, ltb-false, not-false, not-true}
 use lib.Dec.{T, ltb, eqb}
 use Rattle.lists.specs.Test.{of-true, to-true, no-false}
 use Rattle.lists.specs.Least.{least, least-is, least-all, least-hit, least-none, least-below}
@@ -30,7 +30,7 @@ linked-of s p e =
     let x : Bool = eqb (kind s p) 0 && not (isReached s (info s p) && not (eqb (kind s (info s p)) 0)) in
     let y : Bool = (eqb (kind s p) 1 && isDots s p) && not (isReached s (info s p)) in
     let target : kind s p ≡ 0 → (isReached s (info s p) && not (eqb (kind s (info s p)) 0)) ≡ true =
-        λ k. not-false (isReached s (info s p) && not (eqb (kind s (info s p)) 0)) (and-no (eqb (kind s p) 0) (not (isReached s (info s p) && not (eqb (kind s (info s p)) 0))) (or-no-l x y e) (eq-eqb (kind s p) 0 k)) in
+    λ k. not-false (isReached s (info s p) && not (eqb (kind s (info s p)) 0)) (and-no (eqb (kind s p) 0) (not (isReached s (info s p) && not (eqb (kind s (info s p)) 0))) (or-no-l x y e) (eq-eqb (kind s p) 0 k)) in
     record {
       hard = λ k. (
         is-reached s (info s p) (and-yes-l (isReached s (info s p)) (not (eqb (kind s (info s p)) 0)) (target k)),
@@ -90,13 +90,13 @@ not-faulty s p h = go (isReached s p) (badLink s p) h
     go true b f = rw (f refl) tt
     go false b f = tt
 
-links-none : (s : List ℕ) → ((p : ℕ) → isReached s p ≡ true → badLink s p ≡ false) → links s ≡ accepted
+pub links-none : (s : List ℕ) → ((p : ℕ) → isReached s p ≡ true → badLink s p ≡ false) → links s ≡ accepted
 unfolding links
 links-none s h =
     let e : least (λ p. isReached s p && badLink s p) (fullSize s) ≡ fullSize s = least-all (faulty s) (fullSize s) (λ i l. not-faulty s i (h i)) in
     rw (e, le-ltb (fullSize s) (fullSize s) (omega arith))
 
-links-at : (s : List ℕ) (x : ℕ) → x < fullSize s → isReached s x ≡ true → badLink s x ≡ true → ((p : ℕ) → p < x → isReached s p ≡ true → badLink s p ≡ false) → links s ≡ refused 29 x
+pub links-at : (s : List ℕ) (x : ℕ) → x < fullSize s → isReached s x ≡ true → badLink s x ≡ true → ((p : ℕ) → p < x → isReached s p ≡ true → badLink s p ≡ false) → links s ≡ refused 29 x
 unfolding links
 links-at s x h r t below =
     let e : least (λ p. isReached s p && badLink s p) (fullSize s) ≡ x = least-is (faulty s) (fullSize s) x h (of-true (faulty s x) (both (isReached s x) (badLink s x) r t)) (λ i l. not-faulty s i (below i l)) in
@@ -119,8 +119,8 @@ module _ (s : List ℕ) (v : Volume s) (w : walk s ≡ accepted) where
   links-by : Out (visitAll s (linkFault s)) → visitAll s (linkFault s) ≡ links s
   links-by (fine a) =
       a ∙ sym (links-none s (λ p e.
-        let r : IsReached s p = is-reached s p e in
-        link-fine s (r .bound) (r .depth) p (all-met s v (linkFault s) a (has-root (r .reached)) (met s v w (r .reached)))))
+      let r : IsReached s p = is-reached s p e in
+      link-fine s (r .bound) (r .depth) p (all-met s v (linkFault s) a (has-root (r .reached)) (met s v w (r .reached)))))
   links-by (broken n x a) =
       elim (ℕ-discrete (firstRoot s) (fullSize s)) [
         | yes z ↦ absurd (not-both (visit-none s (linkFault s) z) a)
@@ -139,3 +139,43 @@ module _ (s : List ℕ) (v : Volume s) (w : walk s ≡ accepted) where
   -- the second walk gives the lowest bad link
   pub links-visit : visitAll s (linkFault s) ≡ links s
   links-visit = links-by (out (visitAll s (linkFault s)))
+
+-- ---- the lowest
+unless-linked : (s : List ℕ) (i : ℕ) → T (not (faulty s i)) → isReached s i ≡ true → badLink s i ≡ false
+unless-linked s i t e = go (isReached s i) (badLink s i) t e
+  where
+    go : (a b : Bool) → T (not (a && b)) → a ≡ true → b ≡ false
+    go true b u f = no-false b u
+    go false b u f = absurd (true-false refl (sym f))
+
+cond-fine : (b : Bool) (x : ℕ) → cond b (refused 29 x) accepted ≡ accepted → b ≡ false
+cond-fine true x e = absurd (not-both e refl)
+cond-fine false x e = refl
+
+cond-broken : (b : Bool) (x n p : ℕ) → cond b (refused 29 x) accepted ≡ refused n p → (b ≡ true) × (n ≡ 29) × (x ≡ p)
+cond-broken true x n p e = (refl, (cc), (cc))
+cond-broken false x n p e = absurd (not-both refl e)
+
+pub links-clear : (s : List ℕ) → links s ≡ accepted → (i : ℕ) → i < fullSize s → isReached s i ≡ true → badLink s i ≡ false
+unfolding links
+links-clear s e i h =
+    unless-linked s i
+    (least-none (faulty s) (fullSize s) (ltb-false (least (faulty s) (fullSize s)) (fullSize s) (cond-fine (ltb (least (faulty s) (fullSize s)) (fullSize s)) (least (faulty s) (fullSize s)) e)) i h)
+
+pub record LowestLink (s : List ℕ) (n p : ℕ) : Type 0 where
+  pub number : n ≡ 29
+  pub reached : isReached s p ≡ true
+  pub bad : badLink s p ≡ true
+  pub lower : (i : ℕ) → i < p → isReached s i ≡ true → badLink s i ≡ false
+
+pub links-lowest : (s : List ℕ) (n p : ℕ) → links s ≡ refused n p → LowestLink s n p
+unfolding links
+links-lowest s n p e =
+    let c = cond-broken (ltb (least (faulty s) (fullSize s)) (fullSize s)) (least (faulty s) (fullSize s)) n p e in
+    let hit : faulty s p ≡ true = ap (faulty s) (sym (c .2)) ∙ to-true (faulty s (least (faulty s) (fullSize s))) (least-hit (faulty s) (fullSize s) (ltb-true (least (faulty s) (fullSize s)) (fullSize s) (c .0))) in
+    record {
+      number = c .1;
+      reached = and-yes-l (isReached s p) (badLink s p) hit;
+      bad = and-yes-r (isReached s p) (badLink s p) hit;
+      lower = λ i l. unless-linked s i (least-below (faulty s) (fullSize s) i (omega (arith, c .2)));
+    }

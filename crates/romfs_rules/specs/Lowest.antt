@@ -43,7 +43,6 @@ module _ (s : List ℕ) (test : ℕ → ℕ → ℕ → Verdict) (R : ℕ → �
     (after : (q b d : ℕ) → R q b d → test b d q ≡ accepted → next s q ≢ 0 → R (next s q) b d)
     (under : (q b d : ℕ) → R q b d → test b d q ≡ accepted → hasList s q ≡ true → R (info s q) (own s b q) (suc d))
     (placed : (q b d n x : ℕ) → test b d q ≡ refused n x → x ≡ q) where
-
   -- x is refused with n, and no header below x is refused
   pub record Lowest (p bound depth n x : ℕ) : Type 0 where
     pub b : ℕ

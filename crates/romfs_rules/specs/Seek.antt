@@ -114,10 +114,10 @@ module _ (s : List ℕ) (want : ℕ) where
       let g-in = lies (first-to s p bound depth o u) g in
       let other : want ≢ p = omega (arith, room s p, first-from s p bound depth o u) in
       let past : leads (next s p) want ≡ false =
-          elim (ℕ-discrete (next s p) 0) [
-            | yes z ↦ leads-zero (next s p) want z
-            | no z ↦ leads-past (next s p) want (omega (arith, own-next s bound p z))
-          ] in
+      elim (ℕ-discrete (next s p) 0) [
+        | yes z ↦ leads-zero (next s p) want z
+        | no z ↦ leads-past (next s p) want (omega (arith, own-next s bound p z))
+      ] in
       let t : towards s want p ≡ info s p = towards-first s want p past (list-descends s p u) (leads-to (info s p) want (list-first s p u) (g-in .0)) in
       rw sub-one at (seek-on s want (suc f) p (omega arith) other (λ e. list-first s p u (sym t ∙ e)))
       ∙ ap (seek s want f) t
