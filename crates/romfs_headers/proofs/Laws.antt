@@ -14,7 +14,7 @@ use Rattle.lists.specs.Test.{sameList, to-true, to-false, same-eq, same-refl}
 use Rattle.lists.specs.Word.{word}
 use Rattle.lists.specs.Part.{part, getD-part, length-part}
 use Rattle.lists.specs.Least.{Below, found, none-found}
-use Rattle.romfs_rules.specs.Layout.{fullSize, nameLength, zeroAt, wordSum, next, info, endOf, own, descends, hasList}
+use Rattle.romfs_rules.specs.Layout.{fullSize, nameLength, zeroAt, wordSum, next, info, endOf, own, hasList}
 use Rattle.romfs_rules.specs.Rules.{accepted, refused, overBound, badHeader, badNext, badFirst, badNesting, tooDeep, fault}
 use Rattle.romfs_rules.specs.Facts.{room}
 
@@ -63,19 +63,6 @@ unfolding overBound
 not-over s bound p full e h = omega (arith, ltb-false bound (endOf s p) e)
 
 -- ---- the fault of a header
-and-false : (b : Bool) → (b && false) ≡ false
-and-false true = refl
-and-false false = refl
-
-module _ (s : List ℕ) (p : ℕ) where
-  pub no-list : descends s p ≡ false → hasList s p ≡ false
-  unfolding hasList
-  no-list d = rw d
-
-  pub empty-list : info s p ≡ 0 → hasList s p ≡ false
-  unfolding hasList
-  empty-list z = rw (eq-eqb (info s p) 0 z) (and-false (descends s p))
-
 module _ (s : List ℕ) (bound p : ℕ) where
   pub next-test : (r : Bool) (n e : ℕ) → r ≡ (not (eqb n 0) && (ltb n e || leb bound n)) → n ≡ next s p → e ≡ endOf s p → r ≡ badNext s bound p
   unfolding badNext
@@ -84,10 +71,6 @@ module _ (s : List ℕ) (bound p : ℕ) where
   pub first-test : (r : Bool) (n e o : ℕ) → r ≡ (not (eqb (n % 16) 0) || (ltb n e || leb o n)) → n ≡ info s p → e ≡ endOf s p → o ≡ own s bound p → hasList s p ≡ true → r ≡ badFirst s bound p
   unfolding badFirst
   first-test r n e o h f g k t = rw (t, ← f, ← g, ← k) h
-
-  pub own-test : (n o : ℕ) → o ≡ cond (eqb n 0) bound n → n ≡ next s p → o ≡ own s bound p
-  unfolding own
-  own-test n o h f = rw (← f) h
 
   pub fault-header : (d : ℕ) → badHeader s bound p ≡ true → fault s bound d p ≡ refused 26 p
   unfolding fault

@@ -92,6 +92,13 @@ pub fn name_is(image: &[u8], at: usize, n: usize, name: &[u8]) -> bool
     true
 }
 
+pub fn full_size(image: &[u8]) -> usize
+    requires { ⌜ 32 ≤ length (now image) ⌝ }
+    ensures { λ r. ⌜ (r ≡ fullSize (now (image .entry))) × (r < 4294967296) ⌝ }
+{
+    word_at(image, 8)
+}
+
 // ---- a header
 
 pub fn kind_of(image: &[u8], p: usize) -> usize
@@ -135,6 +142,13 @@ pub fn after_name(at: usize, n: usize) -> usize
     ensures { λ r. ⌜ r ≡ at + pad16 (n + 1) ⌝ }
 {
     at + padded(n + 1)
+}
+
+pub fn first_root(image: &[u8], full: usize) -> usize
+    requires { ⌜ Whole (now image) full × (32 ≤ full) ⌝ }
+    ensures { λ r. ⌜ r ≡ firstRoot (now (image .entry)) ⌝ }
+{
+    after_name(16, name_length(image, 16, full))
 }
 
 // Where a header's padded data ends. The name has n bytes.

@@ -55,7 +55,23 @@ pub list-first : (s : List ℕ) (p : ℕ) → hasList s p ≡ true → info s p 
 unfolding hasList
 list-first s p h z = true-false (and-yes-r (descends s p) (not (eqb (info s p) 0)) h) (rw (eq-eqb (info s p) 0 z))
 
+and-false : (b : Bool) → (b && false) ≡ false
+and-false true = refl
+and-false false = refl
+
+pub no-list : (s : List ℕ) (p : ℕ) → descends s p ≡ false → hasList s p ≡ false
+unfolding hasList
+no-list s p d = rw d
+
+pub empty-list : (s : List ℕ) (p : ℕ) → info s p ≡ 0 → hasList s p ≡ false
+unfolding hasList
+empty-list s p z = rw (eq-eqb (info s p) 0 z) (and-false (descends s p))
+
 -- ---- the own bound
+pub own-test : (s : List ℕ) (bound p n o : ℕ) → o ≡ cond (eqb n 0) bound n → n ≡ next s p → o ≡ own s bound p
+unfolding own
+own-test s bound p n o h f = rw (← f) h
+
 pub own-next : (s : List ℕ) (bound p : ℕ) → next s p ≢ 0 → own s bound p ≡ next s p
 unfolding own
 own-next s bound p z = rw (ne-eqb (next s p) 0 z)

@@ -13,7 +13,7 @@ use Rattle.romfs_rules.specs.Layout.{fullSize, firstRoot, next, info, ow
 use Rattle.romfs_rules.specs.Rules.{Verdict, accepted, refused}
 use Rattle.romfs_rules.specs.Reached.{Reached, root, along, inside, IsReached, Sound}
 use Rattle.romfs_rules.specs.Check.{walk, leads, towards, seek, isReached}
-use Rattle.romfs_rules.specs.Facts.{both, and-yes-l, and-yes-r, true-false, not-eqb, list-descends, list-first, room, next-from, next-to, own-next, first-from, first-to}
+use Rattle.romfs_rules.specs.Facts.{both, and-yes-l, and-yes-r, true-false, not-eqb, has-list, list-descends, list-first, room, next-from, next-to, own-next, first-from, first-to}
 use Rattle.romfs_rules.specs.Visit.{From, Cases, same, later, below, cases, lies}
 use Rattle.romfs_rules.specs.Lowest.{yes-no}
 use Rattle.romfs_rules.specs.Walked.{Volume, root-in, root-from, has-root, met, Met}
@@ -85,6 +85,16 @@ towards-reached s want p r z = ⊎-elim next-way (λ n. ⊎-elim (λ d. ⊎-elim
 
     list-way : leads (next s p) want ≡ false → descends s p ≡ true → leads (info s p) want ≡ true → IsReached s (towards s want p)
     list-way n d f = subst (IsReached s) (sym (towards-first s want p n d f)) (record { bound = own s (r .bound) p; depth = suc (r .depth); reached = inside (r .reached) d (leads-some (info s p) want f) })
+
+-- and further on
+pub towards-further : (s : List ℕ) (want p b d : ℕ) → Sound s p b d → towards s want p ≢ 0 → p < towards s want p
+towards-further s want p b d h z = ⊎-elim next-way (λ n. ⊎-elim (λ e. ⊎-elim (list-way n e) (λ f. absurd (z (towards-past s want p n e f))) (yes-no (leads (info s p) want))) (λ e. absurd (z (towards-leaf s want p n e))) (yes-no (descends s p))) (yes-no (leads (next s p) want))
+  where
+    next-way : leads (next s p) want ≡ true → p < towards s want p
+    next-way e = omega (arith, towards-next s want p e, room s p, next-from s p b d h (leads-some (next s p) want e))
+
+    list-way : leads (next s p) want ≡ false → descends s p ≡ true → leads (info s p) want ≡ true → p < towards s want p
+    list-way n e f = omega (arith, towards-first s want p n e f, room s p, first-from s p b d h (has-list s p e (leads-some (info s p) want f)))
 
 -- ---- what it finds is reached
 module _ (s : List ℕ) (want : ℕ) where

@@ -6,7 +6,7 @@ use native.Mathlib.Omega.{arith}
 use denote.Ref.{now}
 use Rattle.romfs_rules.specs.Layout.{own, hasList}
 use Rattle.romfs_rules.specs.Rules.{badHeader, badNext, badFirst}
-use Rattle.romfs_rules.specs.Facts.{has-list}
+use Rattle.romfs_rules.specs.Facts.{has-list, no-list, empty-list, own-test}
 use Rattle.romfs_headers.proofs.Laws as laws
 use Rattle.romfs_headers.proofs.read_entry.Statement.{statement}
 use Rattle.romfs_headers.proofs.read_entry.Tie as tie
@@ -27,7 +27,7 @@ listed c =
     (λ z. c .if5 .left (c .before .info-of .ensures .0 ∙ z))
 
 own-is : (c : tie.After-own-bound) → let a = c .before .before .before .before .before .before .before .before .before .before .before .before .before .before .args in c .own-bound .result ≡ own (now (a .image)) (a .bound) (a .p)
-own-is c = laws.own-test _ _ _ _ _ (c .own-bound .ensures) (c .before .before .before .before .before .before .before .before .next-of .ensures .0)
+own-is c = own-test _ _ _ _ _ (c .own-bound .ensures) (c .before .before .before .before .before .before .before .before .next-of .ensures .0)
 
 first-is : (c : tie.After-bad-first) → let a = c .before .before .before .before .before .before .before .before .before .before .before .before .before .before .before .args in c .bad-first .result ≡ badFirst (now (a .image)) (a .bound) (a .p)
 first-is c =
@@ -48,12 +48,12 @@ returns-3 c = laws.fault-next _ _ _ _ (header-fine (c .before .before .before .b
 
 returns-4 : tie.Need-returns-4
 returns-4 c =
-    let t = laws.no-list _ _ (sym (c .before .goes-down .ensures) ∙ not-true _ (c .if4 .taken)) in
+    let t = no-list _ _ (sym (c .before .goes-down .ensures) ∙ not-true _ (c .if4 .taken)) in
     (laws.fault-leaf _ _ _ _ (header-fine (c .before .before .before .before .before .before)) (next-fine (c .before .before)) t, t)
 
 returns-5 : tie.Need-returns-5
 returns-5 c =
-    let t = laws.empty-list _ _ (sym (c .before .info-of .ensures .0) ∙ c .if5 .taken) in
+    let t = empty-list _ _ (sym (c .before .info-of .ensures .0) ∙ c .if5 .taken) in
     (laws.fault-leaf _ _ _ _ (header-fine (c .before .before .before .before .before .before .before .before)) (next-fine (c .before .before .before .before)) t, t)
 
 returns-6 : tie.Need-returns-6
