@@ -71,17 +71,19 @@ entryAt s p = record {
 }
 
 -- 31: not a reached header
+unfoldable pub described : List ℕ → ℕ → Answer Entry
+described s p = cond (isReached s p) (granted (entryAt s p)) (denied 31 0)
+
 unfoldable pub entry : List ℕ → ℕ → Answer Entry
-entry s p =
-    let a : Answer Entry = cond (isReached s p) (granted (entryAt s p)) (denied 31 0) in
-    checked (check s) a
+entry s p = let a : Answer Entry = described s p in checked (check s) a
 
 -- ---- content
 -- the length; 31: not a reached header, or not type 2 or 3
+unfoldable pub measured : List ℕ → ℕ → Answer ℕ
+measured s p = cond (isReached s p && hasData (kind s p)) (granted (size s p)) (denied 31 0)
+
 unfoldable pub contentLength : List ℕ → ℕ → Answer ℕ
-contentLength s p =
-    let a : Answer ℕ = cond (isReached s p && hasData (kind s p)) (granted (size s p)) (denied 31 0) in
-    checked (check s) a
+contentLength s p = let a : Answer ℕ = measured s p in checked (check s) a
 
 abbrev pub partOf : List ℕ → ℕ → Answer ℕ → List ℕ
 partOf s at (granted n) = part at n s

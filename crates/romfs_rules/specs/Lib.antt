@@ -10,4 +10,5 @@ pub mod Walked
 pub mod Seek
 pub mod Links
 pub mod Theorems
+pub mod Given
 pub mod Example

@@ -163,7 +163,7 @@ then-accepted : (a b : Verdict) → andThen a b ≡ accepted → (a ≡ accepted
 then-accepted accepted b e = (refl, e)
 then-accepted (refused n p) b e = absurd (not-both e refl)
 
-check-parts : (s : List ℕ) → check s ≡ accepted → (volume s ≡ accepted) × (walk s ≡ accepted) × (links s ≡ accepted)
+pub check-parts : (s : List ℕ) → check s ≡ accepted → (volume s ≡ accepted) × (walk s ≡ accepted) × (links s ≡ accepted)
 unfolding check
 check-parts s e =
     let a = then-accepted (volume s) (andThen (walk s) (links s)) e in
