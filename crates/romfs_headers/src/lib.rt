@@ -212,8 +212,8 @@ fn bad_sum(image: &[u8], full: usize, n: usize, p: usize) -> bool
     requires { ⌜ Head (now image) full n p × (endOf (now image) p ≤ full) ⌝ }
     ensures { λ r. ⌜ r ≡ badSum (now (image .entry)) p ⌝ }
 {
-    let e = after_name(p + 16, n);
-    sum_words(image, p, (e - p) / 4) != 0
+    let name = padded(n + 1);
+    sum_words(image, p, (16 + name) / 4) != 0
 }
 
 // Types 2, 3, 6, 7.
