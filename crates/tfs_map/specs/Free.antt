@@ -5,13 +5,13 @@ use Prim.Native.Nat.{ℕ, zero, suc, _+_, _-_, _≤_, _<_}
 use native.Mathlib.Numerals.{add-one}
 use native.Mathlib.Omega.{arith}
 use mathlib.Core.List.{List, [], _∷_, _++_}
-use lib.ListN.{length, getD, drop, length-append}
-use lib.Seq.{drop-cons}
+use lib.ListN.{length, getD, take, drop, length-append}
+use lib.Seq.{drop-cons, length-take-le}
 use Rattle.lists.specs.Sum.{sum, count, count-le}
 use Rattle.tfs_rules.specs.Layout.{mapBit}
 use Rattle.tfs_rules.specs.View.{View, freeBlocks}
 use Rattle.tfs_rules.specs.Requests.{freeFrom}
-use Rattle.tfs_map.specs.Under.{Under}
+use Rattle.tfs_map.specs.Under.{Under, under-take}
 
 -- how many of the first n blocks are free
 unfoldable pub freeBelow : List ℕ → ℕ → ℕ
@@ -129,3 +129,13 @@ free-under map k (suc d) = by (mapBit map k) (freeFrom map (suc k) d) (free-unde
     by true rest u i h = omega (arith, u i h)
     by false rest u zero h = omega arith
     by false rest u (suc i) h = omega (arith, u i (omega arith))
+
+-- ---- the lowest of them, as pick takes them
+pub length-picked : (map : List ℕ) (n want : ℕ) → want ≤ length (freeFrom map 0 n) → length (take want (freeFrom map 0 n)) ≡ want
+length-picked map n want h = length-take-le want (freeFrom map 0 n) h
+
+pub picked-under : (map : List ℕ) (n want : ℕ) → Under n (take want (freeFrom map 0 n))
+picked-under map n want =
+    let z : 0 + n ≡ n = omega arith in
+    let u : Under n (freeFrom map 0 n) = rw z at (free-under map 0 n) in
+    under-take n want (freeFrom map 0 n) u

@@ -1,13 +1,17 @@
 -- Lists of small numbers.
-use Prim.Native.Nat.{ℕ, zero, suc, _<_}
+use mathlib.Core.Path.{_≡_}
+use Prim.Native.Nat.{ℕ, zero, suc, _-_, _≤_, _<_}
 use native.Mathlib.Omega.{arith}
 use mathlib.Core.List.{List, [], _∷_, _++_}
-use lib.ListN.{length, getD, take, length-take}
-use lib.Seq.{getD-take}
+use lib.ListN.{length, getD, take, length-append, length-take}
+use lib.Seq.{getD-take, take-at}
 
 -- every element of l is below n
 abbrev pub Under : ℕ → List ℕ → Type 0
 Under n l = (i : ℕ) → i < length l → getD l i 0 < n
+
+pub under-le : (m n : ℕ) (l : List ℕ) → m ≤ n → Under m l → Under n l
+under-le m n l h u i k = omega (arith, u i k)
 
 pub under-take : (n k : ℕ) (l : List ℕ) → Under n l → Under n (take k l)
 under-take n k l u i h =
@@ -18,3 +22,14 @@ pub under-append : (n : ℕ) (xs ys : List ℕ) → Under n xs → Under n ys �
 under-append n [] ys u w i h = w i h
 under-append n (x ∷ xs) ys u w zero h = u zero (omega arith)
 under-append n (x ∷ xs) ys u w (suc i) h = under-append n xs ys (λ j l. u (suc j) (omega arith)) w i (omega arith)
+
+-- ---- the first w elements of a list that begins with xs, as code takes them: from 0 to w
+module _ (out xs ys : List ℕ) (w : ℕ) (e : out ≡ xs ++ ys) (l : length xs ≡ w) where
+  pub front : take (w - 0) out ≡ xs
+  front = let z : w - 0 ≡ w = omega arith in rw (z, e) (take-at xs ys w l)
+
+  pub front-fits : w ≤ length out
+  front-fits = rw e (omega (arith, length-append xs ys))
+
+  pub front-under : (n : ℕ) → Under n xs → Under n (take (w - 0) out)
+  front-under n u = rw front u
