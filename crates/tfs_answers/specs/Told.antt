@@ -8,13 +8,13 @@ use Rattle.tfs_rules.specs.Requests as rules
 use Rattle.tfs_check.specs.declared.Fault.{Fault}
 use Rattle.tfs_check.specs.declared.Fault.the-variants as fault
 use Rattle.tfs_check.specs.Told.{faultTold}
-use Rattle.tfs.specs.declared.answer.Answer.{Answer}
-use Rattle.tfs.specs.declared.answer.Answer.the-variants as answer
-use Rattle.tfs.specs.declared.answer.Done.{Done}
-use Rattle.tfs.specs.declared.answer.Done.the-variants as done
-use Rattle.tfs.specs.declared.answer.Entry.{Entry}
-use Rattle.tfs.specs.declared.answer.Entry.the-variants as entry
-use Rattle.tfs.specs.declared.answer.Listing.{Listing}
+use Rattle.tfs_answers.specs.declared.Answer.{Answer}
+use Rattle.tfs_answers.specs.declared.Answer.the-variants as answer
+use Rattle.tfs_answers.specs.declared.Done.{Done}
+use Rattle.tfs_answers.specs.declared.Done.the-variants as done
+use Rattle.tfs_answers.specs.declared.Entry.{Entry}
+use Rattle.tfs_answers.specs.declared.Entry.the-variants as entry
+use Rattle.tfs_answers.specs.declared.Listing.{Listing}
 
 -- a fault of the volume, as a refusal
 abbrev pub refusal : Verdict → rules.Answer
