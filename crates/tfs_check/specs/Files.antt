@@ -1,6 +1,6 @@
 -- The files of a volume whose slots are formed: where their inodes lie.
 use mathlib.Core.Path.{_≡_, refl, sym, ap, ap₂, _∙_}
-use mathlib.Core.Bool.{Bool, true, false, not, _&&_, _||_}
+use mathlib.Core.Bool.{Bool, true, false, not, cond, _&&_, _||_}
 use Prim.Native.Nat.{ℕ, _+_, _*_, _≤_, _<_}
 use native.Mathlib.Omega.{arith}
 use mathlib.Core.List.{List, []}
@@ -11,22 +11,21 @@ use Rattle.lists.specs.Least.{least, least-none}
 use Rattle.lists.specs.Part.{part}
 use Rattle.tfs_rules.specs.Layout.{blocks, block, slot, slotInode, slotFree, slotUsed, inRange, nameFormed, nameField, inodeSize}
 use Rattle.tfs_rules.specs.View.{View, view, viewN, free, used, inode}
-use Rattle.tfs_rules.specs.Check.{repeats, badSlot, badInode}
+use Rattle.tfs_rules.specs.Check.{repeats, badSlot, badInode, fileClaims}
 use Rattle.tfs_rules.specs.Consistent.{Inside}
 use Rattle.tfs_laws.specs.Sizes.{in-image}
 use Rattle.tfs_laws.specs.Views.{view-n, inode-block}
+use Rattle.tfs_inode.specs.Claims.{claimList, file-claims}
 use Rattle.tfs_inode.specs.Wrong.{inodeWrong, bad-inode}
 
--- rules 1 and 4 hold, in a volume of n blocks
-pub record Formed (n : ℕ) (img : List ℕ) : Type 0 where
+-- rules 1 and 4 hold
+pub record Formed (img : List ℕ) : Type 0 where
   pub long : 1536 ≤ length img
-  pub count : n ≡ blocks 512 img
   pub slots : least (badSlot (view 512 img)) 25 ≡ 25
 
 -- and rule 5
-pub record Sized (n : ℕ) (img : List ℕ) : Type 0 where
+pub record Sized (img : List ℕ) : Type 0 where
   pub long : 1536 ≤ length img
-  pub count : n ≡ blocks 512 img
   pub slots : least (badSlot (view 512 img)) 25 ≡ 25
   pub inodes : least (badInode 512 (view 512 img)) 25 ≡ 25
 
@@ -80,3 +79,14 @@ module _ (img : List ℕ) (s : ℕ) (below : s < 25) (none : least (badSlot (vie
       bad-inode 512 v s
       ∙ ap (λ (f : Bool). not f && inodeWrong 512 (v .n) (getD (v .inodes) s [])) taken
       ∙ ap₂ (inodeWrong 512) (view-n 512 img) inode-part
+
+  -- and where the slot does not break it, the blocks that it claims
+  pub right-at : least (badInode 512 (view 512 img)) 25 ≡ 25 → inodeWrong 512 (blocks 512 img) (take 512 (drop (inode (view 512 img) s * 512) img)) ≡ false
+  right-at sized = sym wrong-at ∙ no-false (badInode 512 (view 512 img) s) (least-none (badInode 512 (view 512 img)) 25 (omega arith) s below)
+
+  pub claims-at : fileClaims 512 (view 512 img) s ≡ claimList (inode (view 512 img) s) (take 512 (drop (inode (view 512 img) s * 512) img))
+  claims-at =
+      let v : View = view 512 img in
+      file-claims v s
+      ∙ ap (λ (f : Bool). cond f [] (claimList (inode v s) (getD (v .inodes) s []))) taken
+      ∙ ap (claimList (inode v s)) inode-part

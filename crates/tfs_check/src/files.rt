@@ -3,6 +3,7 @@ ghost use mathlib.Core.Path.{_≡_};
 ghost use Prim.Native.Nat.{_≤_, _<_};
 ghost use lib.ListN.{length};
 ghost use Rattle.lists.specs.Least.{least};
+ghost use Rattle.tfs_rules.specs.Layout.{blocks};
 ghost use Rattle.tfs_rules.specs.View.{view, free, inode};
 ghost use Rattle.tfs_rules.specs.Check.{badInode};
 ghost use Rattle.tfs_check.specs.Files.{Formed};
@@ -28,7 +29,7 @@ pub fn inode_in(image: &[u8], s: usize) -> u32
 
 // Whether slot s breaks rule 5, in a volume of n blocks.
 fn inode_bad(image: &[u8], n: usize, s: usize) -> bool
-    requires { ⌜ Formed n (now image) × (s < 25) ⌝ }
+    requires { ⌜ Formed (now image) × (n ≡ blocks 512 (now image)) × (s < 25) ⌝ }
     ensures { λ r. ⌜ r ≡ badInode 512 (view 512 (now (image .entry))) s ⌝ }
 {
     if is_free(image, s) {
@@ -43,7 +44,7 @@ fn inode_bad(image: &[u8], n: usize, s: usize) -> bool
 
 // The first slot that breaks rule 5, or 25.
 pub fn first_bad_inode(image: &[u8], n: usize) -> usize
-    requires { ⌜ Formed n (now image) ⌝ }
+    requires { ⌜ Formed (now image) × (n ≡ blocks 512 (now image)) ⌝ }
     ensures { λ r. ⌜ r ≡ least (badInode 512 (view 512 (now (image .entry)))) 25 ⌝ }
 {
     let mut s = 0;

@@ -18,7 +18,7 @@ loop-holds : tie.Need-loop-holds Inv-loop μ-loop
 loop-holds c = (search needs, below-none _)
 
 inode-bad-requires : tie.Need-inode-bad-requires Inv-loop μ-loop
-inode-bad-requires c κs = (c .before .before .before .pre, search needs)
+inode-bad-requires c κs = (c .before .before .before .pre .0, c .before .before .before .pre .1, search needs)
 
 returns : tie.Need-returns Inv-loop μ-loop
 returns c = found _ _ _ (search needs) (c .before .before .before .loop .inv .1) (cc)

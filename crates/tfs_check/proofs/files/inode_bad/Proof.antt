@@ -24,12 +24,12 @@ block-in : (c : tie.After-inode-in) → c .inode-in .result * 512 + 512 ≤ leng
 block-in c =
     let start = c .before .before .before .before in
     let taken = sym (c .before .before .is-free .ensures) ∙ c .before .if1 .left in
-    rw (c .inode-in .ensures) (inode-fits (now (start .args .image)) (start .args .s) (start .pre .1) (start .pre .0 .slots) taken)
+    rw (c .inode-in .ensures) (inode-fits (now (start .args .image)) (start .args .s) (start .pre .2) (start .pre .0 .slots) taken)
 
 inode-wrong-requires : tie.Need-inode-wrong-requires
 inode-wrong-requires c κs =
     let start = c .before .before .before .before .before in
-    (simp (length-take, length-drop) (omega (arith, block-in (c .before))), omega (arith, start .pre .0 .count, blocks-le (now (start .args .image))))
+    (simp (length-take, length-drop) (omega (arith, block-in (c .before))), omega (arith, start .pre .1, blocks-le (now (start .args .image))))
 
 returns-2 : tie.Need-returns-2
 returns-2 c =
@@ -37,7 +37,7 @@ returns-2 c =
     let img = now (start .args .image) in
     let taken = sym (c .before .before .before .before .is-free .ensures) ∙ c .before .before .before .if1 .left in
     simp add-sub-cancel-left at (c .inode-wrong .ensures)
-    ∙ rw (start .pre .0 .count, c .before .before .inode-in .ensures) (sym (wrong-at img (start .args .s) (start .pre .1) (start .pre .0 .slots) taken))
+    ∙ rw (start .pre .1, c .before .before .inode-in .ensures) (sym (wrong-at img (start .args .s) (start .pre .2) (start .pre .0 .slots) taken))
 
 pub inode-bad-spec : {M : Type 1} → statement M
 inode-bad-spec =
