@@ -5,10 +5,10 @@ ghost use Rattle.tfs_rules.specs.View.{view};
 ghost use Rattle.tfs_rules.specs.Check.{consistent, check};
 ghost use Rattle.tfs_rules.specs.Requests.{granted, storeAll, createView, createStores, removeView, removeStores};
 ghost use Rattle.tfs_rules.specs.Requests as rules;
-ghost use Rattle.tfs_answers.specs.Told.{answerTold, doneTold};
+ghost use Rattle.tfs_answers.specs.Told.{answerTold, AnswerFits, doneTold, DoneFits};
 use tfs_answers::Answer;
 use tfs_answers::Done;
-use tfs_check::Checked;
+use tfs_check::Fault;
 use tfs_dir::find::find_free;
 use tfs_dir::find::find_name;
 use tfs_dir::names::label_allowed;
@@ -17,17 +17,17 @@ use tfs_dir::slots::slot_inode;
 use tfs_inode::read::blocks_needed;
 use tfs_map::room::free_count;
 use tfs_map::room::pick;
-use tfs_steps::erase_file;
-use tfs_steps::file_blocks;
-use tfs_steps::format_blocks;
-use tfs_steps::place_file;
+use tfs_steps::erase::erase_file;
+use tfs_steps::file::file_blocks;
+use tfs_steps::format::format_blocks;
+use tfs_steps::place::place_file;
 
 // An empty volume with this label, whatever the image held.
 pub fn format(image: &mut [u8], label: &[u8]) -> Done
-    ensures { λ r. ⌜ (doneTold r ≡ rules.format 512 (now (image .entry)) (now (label .entry)) .answer) × (now (image .exit) ≡ rules.format 512 (now (image .entry)) (now (label .entry)) .image) ⌝ }
+    ensures { λ r. ⌜ (doneTold r ≡ rules.format 512 (now (image .entry)) (now (label .entry)) .answer) × (now (image .exit) ≡ rules.format 512 (now (image .entry)) (now (label .entry)) .image) × DoneFits r ⌝ }
 {
     if image.len() < 1536 {
-        return Done::Refused(1);
+        return Done::Inconsistent(Fault::Header(1));
     }
     if !label_allowed(label) {
         return Done::Refused(8);
@@ -37,9 +37,9 @@ pub fn format(image: &mut [u8], label: &[u8]) -> Done
 }
 
 // Creates on a consistent volume.
-fn create_sound(image: &mut [u8], name: &[u8], size: u32) -> Answer
+pub fn create_sound(image: &mut [u8], name: &[u8], size: u32) -> Answer
     requires { ⌜ check 512 (now image) ≡ consistent ⌝ }
-    ensures { λ r. ⌜ (answerTold r ≡ createView 512 (view 512 (now (image .entry))) (now (name .entry)) size) × (now (image .exit) ≡ cond (granted (createView 512 (view 512 (now (image .entry))) (now (name .entry)) size)) (storeAll 512 (now (image .entry)) (createStores 512 (view 512 (now (image .entry))) (now (name .entry)) size)) (now (image .entry))) ⌝ }
+    ensures { λ r. ⌜ (answerTold r ≡ createView 512 (view 512 (now (image .entry))) (now (name .entry)) size) × (now (image .exit) ≡ cond (granted (createView 512 (view 512 (now (image .entry))) (now (name .entry)) size)) (storeAll 512 (now (image .entry)) (createStores 512 (view 512 (now (image .entry))) (now (name .entry)) size)) (now (image .entry))) × AnswerFits r ⌝ }
 {
     if !name_allowed(name) {
         return Answer::Refused(8);
@@ -54,7 +54,7 @@ fn create_sound(image: &mut [u8], name: &[u8], size: u32) -> Answer
     if 25 <= s {
         return Answer::Refused(11);
     }
-    let n = tfs_check::blocks(image);
+    let n = tfs_check::volume::blocks(image);
     let want = 1 + blocks_needed(size);
     if free_count(&image[512..1024], n) < want {
         return Answer::Refused(12);
@@ -65,20 +65,10 @@ fn create_sound(image: &mut [u8], name: &[u8], size: u32) -> Answer
     Answer::Granted(list[0])
 }
 
-// A file of this name and size, all zeros.
-pub fn create(image: &mut [u8], name: &[u8], size: u32) -> Answer
-    ensures { λ r. ⌜ (answerTold r ≡ rules.create 512 (now (image .entry)) (now (name .entry)) size .answer) × (now (image .exit) ≡ rules.create 512 (now (image .entry)) (now (name .entry)) size .image) ⌝ }
-{
-    match tfs_check::check(image) {
-        Checked::Refused(f) => Answer::Inconsistent(f),
-        Checked::Consistent => create_sound(image, name, size),
-    }
-}
-
 // Removes on a consistent volume.
-fn remove_sound(image: &mut [u8], name: &[u8]) -> Done
+pub fn remove_sound(image: &mut [u8], name: &[u8]) -> Done
     requires { ⌜ check 512 (now image) ≡ consistent ⌝ }
-    ensures { λ r. ⌜ (doneTold r ≡ removeView 512 (view 512 (now (image .entry))) (now (name .entry))) × (now (image .exit) ≡ cond (granted (removeView 512 (view 512 (now (image .entry))) (now (name .entry)))) (storeAll 512 (now (image .entry)) (removeStores 512 (view 512 (now (image .entry))) (now (name .entry)))) (now (image .entry))) ⌝ }
+    ensures { λ r. ⌜ (doneTold r ≡ removeView 512 (view 512 (now (image .entry))) (now (name .entry))) × (now (image .exit) ≡ cond (granted (removeView 512 (view 512 (now (image .entry))) (now (name .entry)))) (storeAll 512 (now (image .entry)) (removeStores 512 (view 512 (now (image .entry))) (now (name .entry)))) (now (image .entry))) × DoneFits r ⌝ }
 {
     if !name_allowed(name) {
         return Done::Refused(8);
@@ -94,12 +84,3 @@ fn remove_sound(image: &mut [u8], name: &[u8]) -> Done
     Done::Granted
 }
 
-// Removes the file of this name: its blocks are free, its slot is zero.
-pub fn remove(image: &mut [u8], name: &[u8]) -> Done
-    ensures { λ r. ⌜ (doneTold r ≡ rules.remove 512 (now (image .entry)) (now (name .entry)) .answer) × (now (image .exit) ≡ rules.remove 512 (now (image .entry)) (now (name .entry)) .image) ⌝ }
-{
-    match tfs_check::check(image) {
-        Checked::Refused(f) => Done::Inconsistent(f),
-        Checked::Consistent => remove_sound(image, name),
-    }
-}

@@ -1,3 +1,4 @@
 pub mod Head
 pub mod Files
 pub mod Counts
+pub mod Told

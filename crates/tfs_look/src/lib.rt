@@ -4,11 +4,10 @@ ghost use Prim.Native.Nat.{_*_};
 ghost use Rattle.tfs_rules.specs.View.{view, freeBlocks};
 ghost use Rattle.tfs_rules.specs.Check.{consistent, check};
 ghost use Rattle.tfs_rules.specs.Requests.{openView, openAnswer, listView, listAnswer, freeAnswer, value};
-ghost use Rattle.tfs_answers.specs.Told.{answerTold, listingTold};
+ghost use Rattle.tfs_answers.specs.Told.{answerTold, AnswerFits, listingTold, listedName, EntryFits};
 use tfs_answers::Answer;
 use tfs_answers::Entry;
 use tfs_answers::Listing;
-use tfs_check::Checked;
 use tfs_dir::find::find_name;
 use tfs_dir::names::name_allowed;
 use tfs_dir::slots::name_length;
@@ -16,12 +15,12 @@ use tfs_dir::slots::slot_free;
 use tfs_dir::slots::slot_inode;
 use tfs_dir::slots::slot_name;
 use tfs_map::room::free_count;
-use tfs_steps::file_size;
+use tfs_steps::file::file_size;
 
 // Opens on a consistent volume.
-fn open_sound(image: &[u8], name: &[u8]) -> Answer
+pub fn open_sound(image: &[u8], name: &[u8]) -> Answer
     requires { ⌜ check 512 (now image) ≡ consistent ⌝ }
-    ensures { λ r. ⌜ answerTold r ≡ openView 512 (view 512 (now (image .entry))) (now (name .entry)) ⌝ }
+    ensures { λ r. ⌜ (answerTold r ≡ openView 512 (view 512 (now (image .entry))) (now (name .entry))) × AnswerFits r ⌝ }
 {
     if !name_allowed(name) {
         return Answer::Refused(8);
@@ -34,20 +33,10 @@ fn open_sound(image: &[u8], name: &[u8]) -> Answer
     Answer::Granted(slot_inode(dir, s))
 }
 
-// The handle of the file with this name.
-pub fn open(image: &[u8], name: &[u8]) -> Answer
-    ensures { λ r. ⌜ answerTold r ≡ openAnswer 512 (now (image .entry)) (now (name .entry)) ⌝ }
-{
-    match tfs_check::check(image) {
-        Checked::Refused(f) => Answer::Inconsistent(f),
-        Checked::Consistent => open_sound(image, name),
-    }
-}
-
 // Lists a slot of a consistent volume.
-fn list_sound(image: &[u8], slot: u32) -> Listing
+pub fn list_sound(image: &[u8], slot: u32) -> Listing
     requires { ⌜ check 512 (now image) ≡ consistent ⌝ }
-    ensures { λ r. ⌜ listingTold r ≡ listView 512 (view 512 (now (image .entry))) slot ⌝ }
+    ensures { λ r. ⌜ (listingTold r ≡ listView 512 (view 512 (now (image .entry))) slot) × (r .name ≡ listedName (listView 512 (view 512 (now (image .entry))) slot)) × EntryFits (r .entry) ⌝ }
 {
     let none = [0u8; 16];
     let s = slot as usize;
@@ -73,35 +62,13 @@ fn list_sound(image: &[u8], slot: u32) -> Listing
     }
 }
 
-// What stands in a slot.
-pub fn list(image: &[u8], slot: u32) -> Listing
-    ensures { λ r. ⌜ listingTold r ≡ listAnswer 512 (now (image .entry)) slot ⌝ }
-{
-    match tfs_check::check(image) {
-        Checked::Refused(f) => Listing {
-            entry: Entry::Inconsistent(f),
-            name: [0u8; 16],
-        },
-        Checked::Consistent => list_sound(image, slot),
-    }
-}
-
 // Counts the free bytes of a consistent volume.
-fn free_sound(image: &[u8]) -> Answer
+pub fn free_sound(image: &[u8]) -> Answer
     requires { ⌜ check 512 (now image) ≡ consistent ⌝ }
-    ensures { λ r. ⌜ answerTold r ≡ value (512 * freeBlocks (view 512 (now (image .entry)))) ⌝ }
+    ensures { λ r. ⌜ (answerTold r ≡ value (512 * freeBlocks (view 512 (now (image .entry))))) × AnswerFits r ⌝ }
 {
-    let n = tfs_check::blocks(image);
+    let n = tfs_check::volume::blocks(image);
     let free = free_count(&image[512..1024], n);
     Answer::Granted((512 * free) as u32)
 }
 
-// 512 times the free blocks.
-pub fn free_bytes(image: &[u8]) -> Answer
-    ensures { λ r. ⌜ answerTold r ≡ freeAnswer 512 (now (image .entry)) ⌝ }
-{
-    match tfs_check::check(image) {
-        Checked::Refused(f) => Answer::Inconsistent(f),
-        Checked::Consistent => free_sound(image),
-    }
-}
