@@ -1,4 +1,9 @@
+-- `free_sound` meets its contract.
+use native.Mathlib.Omega.{arith}
 use borrow.Author.Needs.{needs}
+use Rattle.lists.specs.Part.{part}
+use Rattle.tfs_answers.specs.Ready.{long}
+use Rattle.tfs_look.specs.Look.{free-are}
 use Rattle.tfs_look.proofs.free_sound.Statement.{statement}
 use Rattle.tfs_look.proofs.free_sound.Tie as tie
 use Rattle.tfs_look.proofs.free_sound.Reads as reads
@@ -20,7 +25,7 @@ part-free-count-start c = search needs
 
 -- src/lib.rt:71:27
 part-free-count-end : tie.Need-part-free-count-end
-part-free-count-end c = ?
+part-free-count-end c = omega (arith, long _ (c .before .before .pre))
 
 -- src/lib.rt:71:9
 free-count-requires : tie.Need-free-count-requires
@@ -36,7 +41,8 @@ cast-t8 c = search needs
 
 -- src/lib.rt:66:1
 returns : tie.Need-returns
-returns c = ?
+unfolding part
+returns c = (free-are _ (c .before .before .blocks2 .result) (c .free-count .result) (c .before .before .blocks2 .ensures .0) (c .free-count .ensures .0), tt)
 
 pub free-sound-spec : {M : Type 1} → statement M
 free-sound-spec =
