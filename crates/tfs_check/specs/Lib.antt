@@ -1,4 +1,6 @@
+pub mod Told
 pub mod Head
 pub mod Files
+pub mod Claimed
 pub mod Counts
-pub mod Told
+pub mod Order

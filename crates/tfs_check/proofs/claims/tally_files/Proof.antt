@@ -6,7 +6,7 @@ use denote.Ref.{now}
 use Rattle.tfs_rules.specs.View.{view}
 use Rattle.tfs_rules.specs.Check.{claimsTo}
 use Rattle.tfs_inode.specs.Claims.{tallied}
-use Rattle.tfs_check.specs.Counts.{claims-none, claims-more, claims-all}
+use Rattle.tfs_check.specs.Claimed.{claims-none, claims-more, claims-all}
 use borrow.Author.Needs.{needs}
 use Rattle.tfs_check.proofs.claims.tally_files.Statement.{statement}
 use Rattle.tfs_check.proofs.claims.tally_files.Tie as tie
