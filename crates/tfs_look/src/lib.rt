@@ -8,6 +8,7 @@ ghost use Rattle.tfs_answers.specs.Told.{answerTold, AnswerFits, listingTold, l
 use tfs_answers::Answer;
 use tfs_answers::Entry;
 use tfs_answers::Listing;
+use tfs_check::Checked;
 use tfs_dir::find::find_name;
 use tfs_dir::names::name_allowed;
 use tfs_dir::slots::name_length;
@@ -18,7 +19,7 @@ use tfs_map::room::free_count;
 use tfs_steps::file::file_size;
 
 // Opens on a consistent volume.
-pub fn open_sound(image: &[u8], name: &[u8]) -> Answer
+fn open_sound(image: &[u8], name: &[u8]) -> Answer
     requires { ⌜ check 512 (now image) ≡ consistent ⌝ }
     ensures { λ r. ⌜ (answerTold r ≡ openView 512 (view 512 (now (image .entry))) (now (name .entry))) × AnswerFits r ⌝ }
 {
@@ -33,8 +34,18 @@ pub fn open_sound(image: &[u8], name: &[u8]) -> Answer
     Answer::Granted(slot_inode(dir, s))
 }
 
+// The handle of the file with this name.
+pub fn open(image: &[u8], name: &[u8]) -> Answer
+    ensures { λ r. ⌜ (answerTold r ≡ openAnswer 512 (now (image .entry)) (now (name .entry))) × AnswerFits r ⌝ }
+{
+    match tfs_check::check(image) {
+        Checked::Refused(f) => Answer::Inconsistent(f),
+        Checked::Consistent => open_sound(image, name),
+    }
+}
+
 // Lists a slot of a consistent volume.
-pub fn list_sound(image: &[u8], slot: u32) -> Listing
+fn list_sound(image: &[u8], slot: u32) -> Listing
     requires { ⌜ check 512 (now image) ≡ consistent ⌝ }
     ensures { λ r. ⌜ (listingTold r ≡ listView 512 (view 512 (now (image .entry))) slot) × (r .name ≡ listedName (listView 512 (view 512 (now (image .entry))) slot)) × EntryFits (r .entry) ⌝ }
 {
@@ -62,8 +73,21 @@ pub fn list_sound(image: &[u8], slot: u32) -> Listing
     }
 }
 
+// What stands in a slot.
+pub fn list(image: &[u8], slot: u32) -> Listing
+    ensures { λ r. ⌜ (listingTold r ≡ listAnswer 512 (now (image .entry)) slot) × (r .name ≡ listedName (listAnswer 512 (now (image .entry)) slot)) × EntryFits (r .entry) ⌝ }
+{
+    match tfs_check::check(image) {
+        Checked::Refused(f) => Listing {
+            entry: Entry::Inconsistent(f),
+            name: [0u8; 16],
+        },
+        Checked::Consistent => list_sound(image, slot),
+    }
+}
+
 // Counts the free bytes of a consistent volume.
-pub fn free_sound(image: &[u8]) -> Answer
+fn free_sound(image: &[u8]) -> Answer
     requires { ⌜ check 512 (now image) ≡ consistent ⌝ }
     ensures { λ r. ⌜ (answerTold r ≡ value (512 * freeBlocks (view 512 (now (image .entry))))) × AnswerFits r ⌝ }
 {
@@ -72,3 +96,12 @@ pub fn free_sound(image: &[u8]) -> Answer
     Answer::Granted((512 * free) as u32)
 }
 
+// 512 times the free blocks.
+pub fn free_bytes(image: &[u8]) -> Answer
+    ensures { λ r. ⌜ (answerTold r ≡ freeAnswer 512 (now (image .entry))) × AnswerFits r ⌝ }
+{
+    match tfs_check::check(image) {
+        Checked::Refused(f) => Answer::Inconsistent(f),
+        Checked::Consistent => free_sound(image),
+    }
+}
