@@ -13,9 +13,9 @@ use Rattle.tfs_rules.specs.View.{View, view, viewN}
 use Rattle.tfs_rules.specs.Check.{Verdict, consistent, broken, found, tooShort, badMagic, badLabel, badSlot, badInode, claims, claimedTwice, badBit, checkView, check}
 use Rattle.tfs_dir.specs.Find.{slotBad, first-bad}
 use Rattle.tfs_inode.specs.Claims.{tallied, Tallied}
-use Rattle.tfs_check.specs.Files.{Sized, blocks-le}
-use Rattle.tfs_check.specs.Claimed.{claims-tallied}
-use Rattle.tfs_check.specs.Counts.{twiceIn, bitOff, twice-same, off-same}
+use Rattle.tfs_tally.specs.Files.{Sized}
+use Rattle.tfs_tally.specs.Claimed.{claims-tallied}
+use Rattle.tfs_tally.specs.Counts.{twiceIn, bitOff, twice-same, off-same}
 
 -- rules 6 and 7
 unfoldable pub blocksVerdict : ℕ → View → Verdict

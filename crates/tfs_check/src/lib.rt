@@ -1,23 +1,21 @@
 // The consistency check of a volume: the first broken rule, at its lowest place.
 pub mod volume; // volume.rt: the size and the header
-pub mod files; // files.rt: the slots and the inodes
-pub mod claims; // claims.rt: the claims of all files, and the map
 
 ghost use mathlib.Core.Path.{_≡_};
 ghost use Prim.Native.Nat.{_≤_};
 ghost use Rattle.tfs_rules.specs.View.{view};
 ghost use Rattle.tfs_rules.specs.Check.{check};
 ghost use Rattle.tfs_check.specs.Told.{checkedTold, CheckedFits};
-ghost use Rattle.tfs_check.specs.Files.{Sized};
+ghost use Rattle.tfs_tally.specs.Files.{Sized};
 ghost use Rattle.tfs_check.specs.Order.{blocksVerdict};
-use crate::claims::first_bad_bit;
-use crate::claims::first_twice;
-use crate::claims::tally_files;
-use crate::files::first_bad_inode;
 use crate::volume::blocks;
 use crate::volume::label_wrong;
 use crate::volume::magic_wrong;
 use tfs_dir::find::first_bad_slot;
+use tfs_tally::claims::first_bad_bit;
+use tfs_tally::claims::first_twice;
+use tfs_tally::claims::tally_files;
+use tfs_tally::files::first_bad_inode;
 
 // What is wrong with a volume: the rule's number, and the slot or the block at fault.
 pub enum Fault {

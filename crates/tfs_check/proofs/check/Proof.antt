@@ -8,7 +8,7 @@ use Rattle.lists.specs.Least.{least, least-le}
 use Rattle.tfs_rules.specs.Layout.{blocks}
 use Rattle.tfs_rules.specs.View.{view}
 use Rattle.tfs_rules.specs.Check.{badSlot, badInode, check}
-use Rattle.tfs_check.specs.Files.{Formed}
+use Rattle.tfs_tally.specs.Files.{Formed}
 use Rattle.tfs_check.specs.Order.{blocksVerdict, inOrder, check-is, slots-at}
 use borrow.Author.Needs.{needs}
 use Rattle.tfs_check.proofs.check.Statement.{statement}

@@ -3,10 +3,10 @@ use Prim.Native.Nat.{_≤_, _-_}
 use denote.Ref.{now}
 use borrow.Author.Count.{below-none, below-more}
 use Rattle.lists.specs.Least.{Below, found, none-found}
-use Rattle.tfs_check.specs.Counts.{twiceIn, twice-yes, twice-no}
+use Rattle.tfs_tally.specs.Counts.{twiceIn, twice-yes, twice-no}
 use borrow.Author.Needs.{needs}
-use Rattle.tfs_check.proofs.claims.first_twice.Statement.{statement}
-use Rattle.tfs_check.proofs.claims.first_twice.Tie as tie
+use Rattle.tfs_tally.proofs.claims.first_twice.Statement.{statement}
+use Rattle.tfs_tally.proofs.claims.first_twice.Tie as tie
 
 abbrev Inv-loop : tie.InvT-loop
 Inv-loop counts n b₀ b = (b ≤ n) × Below (twiceIn counts) b

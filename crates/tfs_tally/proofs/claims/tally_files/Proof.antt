@@ -6,10 +6,10 @@ use denote.Ref.{now}
 use Rattle.tfs_rules.specs.View.{view}
 use Rattle.tfs_rules.specs.Check.{claimsTo}
 use Rattle.tfs_inode.specs.Claims.{tallied}
-use Rattle.tfs_check.specs.Claimed.{claims-none, claims-more, claims-all}
+use Rattle.tfs_tally.specs.Claimed.{claims-none, claims-more, claims-all}
 use borrow.Author.Needs.{needs}
-use Rattle.tfs_check.proofs.claims.tally_files.Statement.{statement}
-use Rattle.tfs_check.proofs.claims.tally_files.Tie as tie
+use Rattle.tfs_tally.proofs.claims.tally_files.Statement.{statement}
+use Rattle.tfs_tally.proofs.claims.tally_files.Tie as tie
 
 abbrev Inv-loop : tie.InvT-loop
 Inv-loop image counts₀ s₀ counts s = (s ≤ 25) × (counts ≡ tallied counts₀ (claimsTo 512 (view 512 image) s))

@@ -1,12 +1,11 @@
 -- `bit_off` meets its contract.
-use mathlib.Core.Path.{sym, _∙_}
+use mathlib.Core.Path.{sym, ap, _∙_}
 use mathlib.Core.Bool.{not}
-use mathlib.Core.Path.{ap}
 use denote.Ref.{now}
-use Rattle.tfs_check.specs.Counts.{off-low, off-claimed, off-unclaimed}
+use Rattle.tfs_tally.specs.Counts.{off-low, off-claimed, off-unclaimed}
 use borrow.Author.Needs.{needs}
-use Rattle.tfs_check.proofs.claims.bit_off.Statement.{statement}
-use Rattle.tfs_check.proofs.claims.bit_off.Tie as tie
+use Rattle.tfs_tally.proofs.claims.bit_off.Statement.{statement}
+use Rattle.tfs_tally.proofs.claims.bit_off.Tie as tie
 
 returns : tie.Need-returns
 returns c =

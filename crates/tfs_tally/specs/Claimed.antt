@@ -1,7 +1,7 @@
 -- The claims of the files in a volume whose slots and inodes are right, counted slot by slot.
 use mathlib.Core.Path.{_≡_, refl, sym, ap, _∙_}
 use mathlib.Core.Bool.{Bool, true, false}
-use Prim.Native.Nat.{ℕ, zero, suc, _+_, _*_, _-_, _≤_, _<_, min}
+use Prim.Native.Nat.{ℕ, zero, suc, _+_, _*_, _-_, _≤_, _<_}
 use native.Mathlib.Numerals.{add-one}
 use native.Mathlib.Omega.{arith}
 use mathlib.Core.List.{List, [], _++_}
@@ -9,11 +9,11 @@ use lib.ListN.{length, getD, take, drop, length-append}
 use lib.Seq.{take-at}
 use Rattle.tfs_rules.specs.Layout.{blocks, need, inodeSize}
 use Rattle.tfs_rules.specs.View.{View, view, free, inode}
-use Rattle.tfs_rules.specs.Check.{fileClaims, claimsTo, claims, times}
+use Rattle.tfs_rules.specs.Check.{fileClaims, claimsTo, claims}
 use Rattle.tfs_map.specs.Under.{Under, under-append}
 use Rattle.tfs_inode.specs.Claims.{claimList, length-claims, file-claims, claims-under, tallied, tallied-none, tallied-append, tally-times, Tallied}
 use Rattle.tfs_inode.specs.Wrong.{inodeWrong, right-need}
-use Rattle.tfs_check.specs.Files.{Sized, blocks-le, inode-under, inode-fits, right-at, claims-at}
+use Rattle.tfs_tally.specs.Files.{Sized, blocks-le, inode-under, inode-fits, right-at, claims-at}
 
 -- the claims at the front of a list
 pub claims-front : (b : ℕ) (ino rest : List ℕ) (k : ℕ) → k ≡ 1 + need 512 (inodeSize ino) → take (k - 0) (drop 0 (claimList b ino ++ rest)) ≡ claimList b ino

@@ -9,11 +9,10 @@ use denote.Ref.{now}
 use Rattle.tfs_rules.specs.Layout.{need, inodeSize}
 use Rattle.tfs_rules.specs.View.{view}
 use Rattle.tfs_inode.specs.Claims.{claimList, tallied}
-use Rattle.tfs_check.specs.Claimed.{Held, held, held-none, claims-front, claims-room}
+use Rattle.tfs_tally.specs.Claimed.{Held, held, held-none, claims-front, claims-room}
 use borrow.Author.Needs.{needs}
-use Rattle.tfs_check.proofs.claims.tally_slot.Statement.{statement}
-use Rattle.tfs_check.proofs.claims.tally_slot.Tie as tie
-use Rattle.tfs_check.proofs.claims.tally_slot.Lts as lts
+use Rattle.tfs_tally.proofs.claims.tally_slot.Statement.{statement}
+use Rattle.tfs_tally.proofs.claims.tally_slot.Tie as tie
 
 returns : tie.Need-returns
 returns c =

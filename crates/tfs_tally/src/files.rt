@@ -6,7 +6,7 @@ ghost use Rattle.lists.specs.Least.{least};
 ghost use Rattle.tfs_rules.specs.Layout.{blocks};
 ghost use Rattle.tfs_rules.specs.View.{view, free, inode};
 ghost use Rattle.tfs_rules.specs.Check.{badInode};
-ghost use Rattle.tfs_check.specs.Files.{Formed};
+ghost use Rattle.tfs_tally.specs.Files.{Formed};
 use tfs_dir::slots::slot_free;
 use tfs_dir::slots::slot_inode;
 use tfs_inode::rule::inode_wrong;

@@ -1,17 +1,16 @@
 -- `inode_bad` meets its contract.
-use mathlib.Core.Path.{_≡_, sym, _∙_}
+use mathlib.Core.Path.{sym, _∙_}
 use Prim.Native.Nat.{_*_, _+_, _≤_}
 use native.Mathlib.Omega.{arith}
 use native.Mathlib.Nat.{add-sub-cancel-left}
 use lib.ListN.{length, length-take, length-drop}
 use denote.Ref.{now}
-use Rattle.tfs_rules.specs.View.{view, inode}
+use Rattle.tfs_rules.specs.View.{view}
 use Rattle.tfs_inode.specs.Wrong.{bad-inode}
-use Rattle.tfs_check.specs.Files.{blocks-le, inode-fits, wrong-at}
+use Rattle.tfs_tally.specs.Files.{blocks-le, inode-fits, wrong-at}
 use borrow.Author.Needs.{needs}
-use Rattle.tfs_check.proofs.files.inode_bad.Statement.{statement}
-use Rattle.tfs_check.proofs.files.inode_bad.Tie as tie
-use Rattle.tfs_check.proofs.files.inode_bad.Lts as lts
+use Rattle.tfs_tally.proofs.files.inode_bad.Statement.{statement}
+use Rattle.tfs_tally.proofs.files.inode_bad.Tie as tie
 
 -- a free slot has no inode
 returns : tie.Need-returns

@@ -9,7 +9,7 @@ use lib.Dec.{T, leb, ltb, leb→le, ltb→lt}
 use Rattle.lists.specs.Test.{of-true, no-false, and-l, and-r}
 use Rattle.lists.specs.Least.{least, least-none}
 use Rattle.lists.specs.Part.{part}
-use Rattle.tfs_rules.specs.Layout.{blocks, block, slot, slotInode, slotFree, slotUsed, inRange, nameFormed, nameField, inodeSize}
+use Rattle.tfs_rules.specs.Layout.{blocks, block, slot, slotInode, slotFree, slotUsed, inRange, nameFormed, nameField}
 use Rattle.tfs_rules.specs.View.{View, view, viewN, free, used, inode}
 use Rattle.tfs_rules.specs.Check.{repeats, badSlot, badInode, fileClaims}
 use Rattle.tfs_rules.specs.Consistent.{Inside}
