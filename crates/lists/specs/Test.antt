@@ -3,6 +3,8 @@ use mathlib.Core.Path.{_≡_, refl, sym, ap, _∙_, subst}
 use mathlib.Core.Bool.{Bool, true, false, not, cond, _&&_, _||_, Bool·beq}
 use Prim.Native.Nat.{ℕ, zero, suc, _≤_, _<_}
 use mathlib.Core.List.{List, [], _∷_}
+use native.Mathlib.Omega.{arith}
+use lib.ListN.{length, getD}
 use lib.Dec.{T, leb, ltb, eqb, eqb→eq, eqb-refl, T-not, not-T}
 
 -- whether two lists are equal
@@ -131,3 +133,13 @@ same-refl (x ∷ xs) = and-of (eqb x x) (sameList xs xs) (eqb-refl x) (same-refl
 
 pub same-not : (a b : List ℕ) → T (not (sameList a b)) → a ≡ b → ⊥
 same-not a b t e = T-not (sameList a b) t (rw e (same-refl b))
+
+-- a list of zeros only, by its bytes
+pub zero-bytes : (l : List ℕ) → T (allZero l) → (i : ℕ) → getD l i 0 ≡ 0
+zero-bytes [] t i = refl
+zero-bytes (x ∷ xs) t zero = eqb→eq x 0 (and-l (eqb x 0) (allZero xs) t)
+zero-bytes (x ∷ xs) t (suc i) = zero-bytes xs (and-r (eqb x 0) (allZero xs) t) i
+
+pub all-zero : (l : List ℕ) → ((i : ℕ) → i < length l → getD l i 0 ≡ 0) → T (allZero l)
+all-zero [] h = tt
+all-zero (x ∷ xs) h = and-of (eqb x 0) (allZero xs) (eqb-of (h 0 (omega arith))) (all-zero xs (λ i l. h (suc i) (omega arith)))

@@ -1,6 +1,6 @@
 -- The starred cases: what the definitions give on them, in one table, and that it is the table written out.
 use mathlib.Core.Path.{_≡_, refl, ap, _∙_}
-use mathlib.Core.Bool.{false}
+use mathlib.Core.Bool.{false, cond}
 use Prim.Native.Nat.{ℕ, _*_, _≤_, _<_}
 use native.Mathlib.Omega.{arith}
 use mathlib.Core.List.{List, [], _∷_}
@@ -34,8 +34,8 @@ code (file nm i z) = 3 ∷ i ∷ z ∷ nm
 code (refused num p) = 4 ∷ num ∷ p ∷ []
 
 -- what the definitions give: an image of 128 blocks, one of 131 and one of 130, a buffer to read into and one to write from
-unfoldable pub table : (img a b into from : List ℕ) → List (List ℕ)
-table img a b into from =
+unfoldable pub computed : (img a b into from : List ℕ) → List (List ℕ)
+computed img a b into from =
     let f : Outcome = format 512 img PUMP in
     let c : Outcome = create 512 (f .image) TIMING 1000 in
     -- format 65,536 bytes as "PUMP": blocks 0 and 1, free bytes
@@ -54,9 +54,11 @@ table img a b into from =
     ∷ code (read 512 (c .image) 3 1000 into .answer)
     ∷ code (read 512 (c .image) 3 1001 into .answer)
     ∷ code (write 512 (c .image) 3 990 from .answer)
-    -- blocks 31 and 32 in a map
+    -- blocks 31 and 32 in a map, written and read
     ∷ setBit (zeros 512) 31 1
     ∷ setBit (zeros 512) 32 1
+    ∷ (cond (mapBit (0x80 ∷ zeros 511) 31) 1 0 ∷ [])
+    ∷ (cond (mapBit (0x00 ∷ 0x00 ∷ 0x00 ∷ 0x00 ∷ 0x00 ∷ 0x00 ∷ 0x00 ∷ 0x01 ∷ zeros 504) 32) 1 0 ∷ [])
     -- create 65,024 in an empty volume, N = 131 and N = 130
     ∷ code (create 512 (format 512 a PUMP .image) TIMING 65024 .answer)
     ∷ code (create 512 (format 512 b PUMP .image) TIMING 65024 .answer)
@@ -80,6 +82,8 @@ expected =
     ∷ code (value 10)
     ∷ (0x80 ∷ zeros 511)
     ∷ (0x00 ∷ 0x00 ∷ 0x00 ∷ 0x00 ∷ 0x00 ∷ 0x00 ∷ 0x00 ∷ 0x01 ∷ zeros 504)
+    ∷ (1 ∷ [])
+    ∷ (1 ∷ [])
     ∷ code (value 3)
     ∷ code (refused 12 0)
     ∷ []
@@ -199,8 +203,8 @@ module _ {img : List ℕ} (g : Image 128 img) where
   write-made o k buf e = ap (λ (c : Outcome). write 512 (c .image) 3 o buf .answer) is-made ∙ write-is filled 3 o k buf e
 
 -- every row of the table at once, for any images and buffers of these lengths
-pub starred : (img a b into from : List ℕ) → length img ≡ 65536 → length a ≡ 67072 → length b ≡ 66560 → length into ≡ 200 → length from ≡ 30 → table img a b into from ≡ expected
-unfolding table expected computing
+pub starred : (img a b into from : List ℕ) → length img ≡ 65536 → length a ≡ 67072 → length b ≡ 66560 → length into ≡ 200 → length from ≡ 30 → computed img a b into from ≡ expected
+unfolding computed expected computing
 starred img a b into from len len-a len-b len-into len-from =
     let g : Image 128 img = record { low = lit≤ tt; high = lit≤ tt; whole = len } in
     let g-a : Image 131 a = record { low = lit≤ tt; high = lit≤ tt; whole = len-a } in
@@ -221,6 +225,8 @@ starred img a b into from len len-a len-b len-into len-from =
     ∷ code (write-made g 990 30 from len-from i)
     ∷ setBit (zeros 512) 31 1
     ∷ setBit (zeros 512) 32 1
+    ∷ (cond (mapBit (0x80 ∷ zeros 511) 31) 1 0 ∷ [])
+    ∷ (cond (mapBit (0x00 ∷ 0x00 ∷ 0x00 ∷ 0x00 ∷ 0x00 ∷ 0x00 ∷ 0x00 ∷ 0x01 ∷ zeros 504) 32) 1 0 ∷ [])
     ∷ code (created g-a refl 65024 i .answer)
     ∷ code (created g-b refl 65024 i .answer)
     ∷ []

@@ -9,7 +9,7 @@ use lib.ListN.{length, getD, length-replicate, getD-replicate}
 use lib.Seq.{ext-getD}
 use lib.Dec.{T, ltb, lt→ltb}
 use Rattle.lists.specs.Name.{zeros}
-use Rattle.lists.specs.Test.{allZero, cond-no, yes-yes}
+use Rattle.lists.specs.Test.{allZero, zero-bytes, cond-no, yes-yes}
 use Rattle.lists.specs.Table.{table, table-cong, table-getD}
 use Rattle.lists.specs.Part.{part, withPart, length-part, with-with, with-same}
 use Rattle.tfs_rules.specs.Layout.{BlockSize, slots, block, slot, setSlot, setBits, mapBit, need, entry, slotFree, nameAllowed}
@@ -18,7 +18,7 @@ use Rattle.tfs_rules.specs.Check.{consistent, fileClaims}
 use Rattle.tfs_rules.specs.Consistent.{File, Consistent}
 use Rattle.tfs_rules.specs.CheckMeans.{check-means}
 use Rattle.tfs_rules.specs.Requests.{Answer, done, refused, granted, Outcome, storeAll, create, createStores, chosen, removeView, removeStores, remove, stored}
-use Rattle.tfs_laws.specs.Views.{view-dir, view-map, zero-bytes}
+use Rattle.tfs_laws.specs.Views.{view-dir, view-map}
 use Rattle.tfs_laws.specs.MapBits.{In, in-at, Distinct, setBits-undo}
 use Rattle.tfs_laws.specs.Names.{slot-is, free-hit, claims-is, name-refl}
 use Rattle.tfs_laws.specs.Entries.{length-entry, allowed}
@@ -72,12 +72,13 @@ module _ (B : ℕ) (sz : BlockSize B) (img : List ℕ) (ok : Consistent B img) (
   abbrev s : ℕ
   s = freeSlot B v
 
-  at-slot : slotOf B v′ nm ≡ s
+  -- the created name is in that slot
+  pub at-slot : slotOf B v′ nm ≡ s
   at-slot =
       slot-is B v′ nm (made.apart′ B sz img ok nm z gr) s (made.new-file B sz img ok nm z gr)
       (subst (λ (x : List ℕ). T (Rattle.tfs_rules.specs.Layout.sameName x nm)) (sym (made.new-name B sz img ok nm z gr)) (name-refl nm))
 
-  hit : slotOf B v′ nm < slots B
+  pub hit : slotOf B v′ nm < slots B
   hit = subst (λ (x : ℕ). x < slots B) (sym at-slot) (gr .slot)
 
   -- the created file claims the chosen blocks

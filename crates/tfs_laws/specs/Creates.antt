@@ -44,6 +44,14 @@ pub grant-step : (b : Bool) (num : ℕ) (a : Answer) → T (granted (cond b (ref
 grant-step true num a t = absurd t
 grant-step false num a t = (tt, t)
 
+-- and gave the value that was to come
+pub value-step : (b : Bool) (num : ℕ) (a : Answer) (x : ℕ) → cond b (refused num 0) a ≡ value x → T (not b) × (a ≡ value x)
+value-step true num a x e = absurd (let z : _≡_ {A = ℕ} 0 1 = cc in omega arith)
+value-step false num a x e = (tt, e)
+
+pub same-value : (x y : ℕ) → value x ≡ value y → x ≡ y
+same-value x y e = cc
+
 pub create-grant : (B : ℕ) (v : View) (nm : List ℕ) (z : ℕ) → T (granted (createView B v nm z)) → CreateGrant B v nm z
 unfolding createView
 create-grant B v nm z t =

@@ -1,20 +1,22 @@
 -- What create writes is read back: a directory entry, and an inode.
 use mathlib.Core.Path.{_≡_, refl, sym, ap, ap₂, _∙_, subst}
 use mathlib.Core.Logic.{_≢_}
-use mathlib.Core.Bool.{Bool, true, false, not, cond, _&&_}
-use Prim.Native.Nat.{ℕ, zero, suc, _+_, _-_, _*_, _/_, _%_, _≤_, _<_, min}
-use mathlib.Core.List.{List, [], _∷_, _++_}
+use mathlib.Core.Bool.{not}
+use Prim.Native.Nat.{ℕ, zero, suc, _+_, _-_, _*_, _≤_, _<_}
+use mathlib.Core.List.{List, _∷_, _++_}
 use native.Mathlib.Omega.{arith}
-use lib.ListN.{length, getD, take, drop, length-append, length-take, length-replicate, List·getD-append, getD-replicate, List·getD-eq-default}
-use lib.Seq.{take-all, take-at, drop-at, getD-append-add}
-use lib.Dec.{T, leb, ltb, eqb, leb→le, ltb→lt, eqb→eq, le→leb, lt→ltb, T-not, not-T}
-use Rattle.lists.specs.Test.{allZero, and-of, and-l, and-r, eqb-of, neqb-of}
-use Rattle.lists.specs.Least.{least, least-is, least-below}
+use lib.ListN.{length, getD, take, length-append, length-take, length-replicate, List·getD-append}
+use lib.Seq.{take-all, take-at, getD-append-add}
+use lib.Dec.{T, leb, ltb, leb→le, ltb→lt, eqb→eq, T-not, not-T}
+use Rattle.lists.specs.Test.{allZero, zero-bytes, and-of, and-l, and-r, eqb-of}
+use Rattle.lists.specs.Least.{least-below}
 use Rattle.lists.specs.Name.{zeros, zeroAt, firstZero, upToZero, padTo}
 use Rattle.lists.specs.Word.{word, bytes4, words, length-words, words-at, word-bytes4, word-skip}
 use Rattle.lists.specs.Part.{part}
 use Rattle.tfs_rules.specs.Layout.{slotInode, nameField, slotName, slotFree, slotUsed, nameFormed, inRange, entry, inodeSize, inodeNumber, inodeBlock, labelAllowed, nameAllowed}
-use Rattle.tfs_laws.specs.Views.{zero-bytes, zero-word}
+use Rattle.tfs_rules.specs.Consistent.{Named}
+use Rattle.tfs_rules.specs.CheckMeans.{name-is, formed-named}
+use Rattle.tfs_laws.specs.Views.{zero-word}
 
 pub length-pad : (n : ℕ) (l : List ℕ) → length (padTo n l) ≡ n
 length-pad n l = simp (length-append, length-take, length-replicate) (omega arith)
@@ -50,34 +52,29 @@ module _ (nm : List ℕ) (ok : Allowed nm) where
   field-byte : (i : ℕ) → i < length nm → getD (padTo 16 nm) i 0 ≡ getD nm i 0
   field-byte i h = ap (λ (x : List ℕ). getD x i 0) pad-is ∙ List·getD-append nm (zeros (16 - length nm)) 0 i h
 
-  field-end : getD (padTo 16 nm) (length nm) 0 ≡ 0
-  field-end =
-      ap (λ (x : List ℕ). getD x (length nm) 0) pad-is
-      ∙ ap (λ (i : ℕ). getD (nm ++ zeros (16 - length nm)) i 0) (omega arith)
-      ∙ getD-append-add nm (zeros (16 - length nm)) 0 0
-      ∙ zero-bytes (zeros (16 - length nm)) (zeros-zero (16 - length nm)) 0
+  field-rest : (i : ℕ) → length nm ≤ i → getD (padTo 16 nm) i 0 ≡ 0
+  field-rest i h =
+      ap (λ (x : List ℕ). getD x i 0) pad-is
+      ∙ ap (λ (j : ℕ). getD (nm ++ zeros (16 - length nm)) j 0) (omega arith)
+      ∙ getD-append-add nm (zeros (16 - length nm)) (i - length nm) 0
+      ∙ zero-bytes (zeros (16 - length nm)) (zeros-zero (16 - length nm)) (i - length nm)
 
-  pub field-zero : firstZero (padTo 16 nm) ≡ length nm
-  unfolding firstZero zeroAt
-  field-zero =
-      least-is (zeroAt (padTo 16 nm)) (length (padTo 16 nm)) (length nm) (omega (arith, length-pad 16 nm, ok .short)) (eqb-of field-end)
-      (λ i l. neqb-of (getD (padTo 16 nm) i 0) 0 (λ e. ok .whole i l (sym (field-byte i l) ∙ e)))
+  -- the padded field holds the name
+  pub field-named : Named (padTo 16 nm) (length nm)
+  field-named =
+      record {
+        some = ok .some;
+        short = omega (arith, ok .short);
+        bytes = λ i l e. ok .whole i l (sym (field-byte i l) ∙ e);
+        zeros = λ i h l. field-rest i h;
+      }
 
   pub field-name : upToZero (padTo 16 nm) ≡ nm
-  unfolding upToZero
   field-name =
-      ap (λ (k : ℕ). take k (padTo 16 nm)) field-zero ∙ ap (take (length nm)) pad-is ∙ take-at nm (zeros (16 - length nm)) (length nm) refl
+      name-is (padTo 16 nm) (length nm) (length-pad 16 nm) field-named ∙ ap (take (length nm)) pad-is ∙ take-at nm (zeros (16 - length nm)) (length nm) refl
 
   pub field-formed : T (nameFormed (padTo 16 nm))
-  unfolding nameFormed
-  field-formed =
-      let z : T (allZero (drop (firstZero (padTo 16 nm)) (padTo 16 nm))) =
-      subst (λ (x : List ℕ). T (allZero x))
-      (sym (ap (λ (k : ℕ). drop k (padTo 16 nm)) field-zero ∙ ap (drop (length nm)) pad-is ∙ drop-at nm (zeros (16 - length nm)) (length nm) refl))
-      (zeros-zero (16 - length nm))
-      in
-      and-of (leb 1 (firstZero (padTo 16 nm)) && ltb (firstZero (padTo 16 nm)) 16) (allZero (drop (firstZero (padTo 16 nm)) (padTo 16 nm)))
-      (and-of (leb 1 (firstZero (padTo 16 nm))) (ltb (firstZero (padTo 16 nm)) 16) (le→leb 1 (firstZero (padTo 16 nm)) (omega (arith, field-zero, ok .some))) (lt→ltb (firstZero (padTo 16 nm)) 16 (omega (arith, field-zero, ok .short)))) z
+  field-formed = formed-named (padTo 16 nm) (length-pad 16 nm) .1 (length nm, field-named)
 
   -- ---- the entry of inode i
   module _ (i : ℕ) where

@@ -1,7 +1,7 @@
 -- Format leaves a consistent volume with no file in it, and changes nothing past block 2.
 use mathlib.Core.Path.{_≡_, refl, sym, ap, _∙_, subst}
 use mathlib.Core.Logic.{inl, inr, ⊎-elim}
-use mathlib.Core.Bool.{true, false, not, _&&_}
+use mathlib.Core.Bool.{false, not, _&&_}
 use mathlib.Core.Option.{none}
 use Prim.Native.Nat.{ℕ, zero, suc, _+_, _-_, _*_, _%_, _≤_, _<_}
 use mathlib.Core.List.{List, [], _∷_, _++_}
@@ -10,7 +10,7 @@ use native.Mathlib.Decide.{decLt}
 use lib.ListN.{length, getD, drop, length-take, length-replicate}
 use lib.Seq.{take-all, getD-append-add}
 use lib.Dec.{T, ltb, eqb, ltb→lt, nltb→le, T-not}
-use Rattle.lists.specs.Test.{allZero, by-test, cond-yes, cond-no, and-of, and-l, no-and, yes-yes, eqb-of, of-true}
+use Rattle.lists.specs.Test.{zero-bytes, all-zero, by-test, cond-yes, cond-no, and-l, no-and, yes-yes, of-true}
 use Rattle.lists.specs.Least.{least-all}
 use Rattle.lists.specs.Name.{zeros, padTo}
 use Rattle.lists.specs.Part.{part, getD-part, getD-with-after}
@@ -22,7 +22,7 @@ use Rattle.tfs_rules.specs.Check.{tooShort}
 use Rattle.tfs_rules.specs.Consistent.{File, Sound, Consistent}
 use Rattle.tfs_rules.specs.Claims.{slotIn, owns-file}
 use Rattle.tfs_rules.specs.Requests.{done, granted, Outcome, Store, store, storeAll, refuse, formatStores, format}
-use Rattle.tfs_laws.specs.Views.{zero-bytes, view-head, view-map, view-dir}
+use Rattle.tfs_laws.specs.Views.{view-head, view-map, view-dir}
 use Rattle.tfs_laws.specs.Stores.{length-setBlock, Fits, Away, length-storeAll, stored-first}
 use Rattle.tfs_laws.specs.Entries.{length-pad, zeros-zero}
 use Rattle.tfs_laws.specs.Others.{stands-not}
@@ -31,10 +31,6 @@ use Rattle.tfs_laws.specs.MapBits.{In, Mapped, length-setBits, bits-kept
 -- ---- zeros
 zeros-byte : (n i : ℕ) → getD (zeros n) i 0 ≡ 0
 zeros-byte n i = zero-bytes (zeros n) (zeros-zero n) i
-
-all-zero : (l : List ℕ) → ((i : ℕ) → i < length l → getD l i 0 ≡ 0) → T (allZero l)
-all-zero [] h = tt
-all-zero (x ∷ xs) h = and-of (eqb x 0) (allZero xs) (eqb-of (h 0 (omega arith))) (all-zero xs (λ i l. h (suc i) (omega arith)))
 
 zero-bit : (k : ℕ) → bitOf 0 k ≡ 0
 unfolding bitOf
@@ -220,9 +216,10 @@ by-format B img label P short bad full =
     (λ u. subst P (sym (cond-no (not (labelAllowed label)) _ _ (yes-yes (labelAllowed label) u))) (full (nltb→le (length img) (3 * B) t) u))
     (λ u. subst P (sym (cond-yes (not (labelAllowed label)) _ _ u)) (bad u))))
 
--- a refusal is no grant
-not-granted {ℓ} : {X : Type ℓ} → false ≡ true → X
-not-granted e = absurd (subst T (sym e) tt)
+-- "A refusal leaves the image .. unchanged"
+pub format-refused : (B : ℕ) (img label : List ℕ) → T (not (granted (format B img label .answer))) → format B img label .image ≡ img
+format-refused B img label =
+    by-format B img label (λ o. T (not (granted (o .answer))) → o .image ≡ img) (λ _ _. refl) (λ _ _. refl) (λ _ _ g. absurd g)
 
 module _ {B : ℕ} (size : BlockSize B) (img label : List ℕ) where
   -- format grants every image of 3 blocks or more and every allowed label
@@ -231,15 +228,15 @@ module _ {B : ℕ} (size : BlockSize B) (img label : List ℕ) where
       by-format B img label (λ o. o .answer ≡ done) (λ l. absurd (omega arith)) (λ u. absurd (T-not (labelAllowed label) u t)) (λ _ _. refl)
 
   -- granted, it leaves a consistent volume
-  pub format-consistent : granted (format B img label .answer) ≡ true → Consistent B (format B img label .image)
+  pub format-consistent : T (granted (format B img label .answer)) → Consistent B (format B img label .image)
   format-consistent =
-      by-format B img label (λ o. granted (o .answer) ≡ true → Consistent B (o .image)) (λ _. not-granted) (λ _. not-granted)
+      by-format B img label (λ o. T (granted (o .answer)) → Consistent B (o .image)) (λ _ g. absurd g) (λ _ g. absurd g)
       (λ h t _. formatted-consistent B size img label h (label-short label t))
 
   -- with no file in it
-  pub format-empty : granted (format B img label .answer) ≡ true → (nm : List ℕ) → contents B (format B img label .image) nm ≡ none
+  pub format-empty : T (granted (format B img label .answer)) → (nm : List ℕ) → contents B (format B img label .image) nm ≡ none
   format-empty =
-      by-format B img label (λ o. granted (o .answer) ≡ true → (nm : List ℕ) → contents B (o .image) nm ≡ none) (λ _. not-granted) (λ _. not-granted)
+      by-format B img label (λ o. T (granted (o .answer)) → (nm : List ℕ) → contents B (o .image) nm ≡ none) (λ _ g. absurd g) (λ _ g. absurd g)
       (λ h t _. formatted-empty B size img label h)
 
   -- "Later blocks are untouched", and so are the bytes past the last block

@@ -17,8 +17,11 @@ pub mod WriteContents
 pub mod Changes
 pub mod Orders
 pub mod CreateRemove
+pub mod Handles
 pub mod Laws
 pub mod Formats
 pub mod Reads
 pub mod Kept
 pub mod Tail
+pub mod Ignored
+pub mod Demands

@@ -1,21 +1,23 @@
 -- What read gives: the bytes of the file from the offset on, and the rest of the buffer as it was.
 use mathlib.Core.Path.{_≡_, refl, sym, ap, subst, _∙_}
-use mathlib.Core.Bool.{Bool, false, not, cond}
+use mathlib.Core.Logic.{_↔_}
+use mathlib.Core.Bool.{not, cond}
 use Prim.Native.Nat.{ℕ, zero, suc, _+_, _-_, _≤_, _<_, min}
 use mathlib.Core.List.{List, _∷_, _++_}
 use native.Mathlib.Omega.{arith}
 use native.Mathlib.Nat.{zero-add}
 use lib.ListN.{length, getD, take, drop}
-use lib.Dec.{T, ltb, ltb→lt, nltb→le}
-use Rattle.lists.specs.Test.{cond-no, not-not}
+use lib.Arith.{le→nltb}
+use lib.Dec.{T, ltb, ltb→lt, nltb→le, lt→ltb}
+use Rattle.lists.specs.Test.{cond-no, not-not, yes-yes}
 use Rattle.lists.specs.Table.{table}
 use Rattle.tfs_rules.specs.Layout.{slots}
 use Rattle.tfs_rules.specs.View.{View, view, inode, size, slotWith, place, content}
 use Rattle.tfs_rules.specs.Check.{Verdict, consistent, broken, check}
-use Rattle.tfs_rules.specs.Consistent.{File}
+use Rattle.tfs_rules.specs.Consistent.{File, Sound}
 use Rattle.tfs_rules.specs.Requests.{Answer, value, refused, granted, checkedFilled, counted, transferView, readBuffer, read}
-use Rattle.tfs_laws.specs.Names.{handle-hit}
-use Rattle.tfs_laws.specs.Creates.{grant-step}
+use Rattle.tfs_laws.specs.Names.{handle-hit, handle-is}
+use Rattle.tfs_laws.specs.Creates.{value-step, same-value}
 
 -- ---- a stretch of a table
 -- of a table, the elements from o on, the first c, and c of them from o on
@@ -45,15 +47,17 @@ pub record Transfer (B : ℕ) (v : View) (h o len c : ℕ) : Type 0 where
   -- "count = smaller of buffer length and size − offset"
   pub count : c ≡ min len (size v (slotWith B v h) - o)
 
--- the answer is a count only where neither 14 nor 15 is given
+-- the answer is a count exactly where neither 14 nor 15 is given
 transfer-core : (slot all size o n c : ℕ) → cond (not (ltb slot all)) (refused 14 0) (cond (ltb size o) (refused 15 0) (value n)) ≡ value c → (slot < all) × (o ≤ size) × (c ≡ n)
 transfer-core slot all size o n c e =
-    let g14 = grant-step (not (ltb slot all)) 14 (cond (ltb size o) (refused 15 0) (value n)) (subst (λ (x : Answer). T (granted x)) (sym e) tt) in
-    let g15 = grant-step (ltb size o) 15 (value n) (g14 .1) in
-    (ltb→lt slot all (not-not (ltb slot all) (g14 .0)), nltb→le size o (g15 .0), same (sym (cond-no (not (ltb slot all)) _ _ (g14 .0) ∙ cond-no (ltb size o) (refused 15 0) (value n) (g15 .0)) ∙ e))
-  where
-    same : value n ≡ value c → c ≡ n
-    same d = cc
+    let a14 = value-step (not (ltb slot all)) 14 _ c e in
+    let a15 = value-step (ltb size o) 15 (value n) c (a14 .1) in
+    (ltb→lt slot all (not-not (ltb slot all) (a14 .0)), nltb→le size o (a15 .0), sym (same-value n c (a15 .1)))
+
+grant-core : (slot all size o n : ℕ) → slot < all → o ≤ size → cond (not (ltb slot all)) (refused 14 0) (cond (ltb size o) (refused 15 0) (value n)) ≡ value n
+grant-core slot all size o n l h =
+    cond-no (not (ltb slot all)) (refused 14 0) (cond (ltb size o) (refused 15 0) (value n)) (yes-yes (ltb slot all) (lt→ltb slot all l))
+    ∙ cond-no (ltb size o) (refused 15 0) (value n) (le→nltb size o h)
 
 -- what a count as the answer says
 pub transfer-means : (B : ℕ) (v : View) (h o len c : ℕ) → transferView B v h o len ≡ value c → Transfer B v h o len c
@@ -63,6 +67,26 @@ transfer-means B v h o len c e =
     let r : (s < slots B) × (o ≤ size v s) × (c ≡ min len (size v s - o)) = transfer-core s (slots B) (size v s) o (min len (size v s - o)) c e in
     let hit : File B v s × (inode v s ≡ h) = handle-hit B v h (r .0) in
     record { file = hit .0; handle = hit .1; within = r .1; count = r .2 }
+
+-- a transfer is granted with that count exactly so, on any volume
+pub transfer-grants : (B : ℕ) (v : View) (h o len c : ℕ) → (transferView B v h o len ≡ value c) ↔ Transfer B v h o len c
+unfolding transferView counted
+transfer-grants B v h o len c = (
+  transfer-means B v h o len c,
+  λ t.
+      let s : ℕ = slotWith B v h in
+      grant-core s (slots B) (size v s) o (min len (size v s - o)) (t .file .slot) (t .within) ∙ ap value (sym (t .count)),
+)
+
+-- on a sound volume, with no search: a handle that is the inode number of the file in slot s, and an offset not past its end
+pub transfer-file : (B : ℕ) (v : View) → Sound B v → (s h o len : ℕ) → File B v s → inode v s ≡ h → o ≤ size v s → transferView B v h o len ≡ value (min len (size v s - o))
+transfer-file B v ok s h o len f e l =
+    let at : slotWith B v h ≡ s = handle-is B v h ok s f e in
+    transfer-grants B v h o len (min len (size v s - o)) .1
+    (subst (λ (x : ℕ). (inode v x ≡ h) → (o ≤ size v x) → File B v x → Transfer B v h o len (min len (size v s - o))) at
+    (λ i k g.
+    record { file = g; handle = i; within = k; count = ap (λ (x : ℕ). min len (size v x - o)) (sym at) })
+    e l f)
 
 -- ---- read
 -- granted, read gives the bytes of the file from the offset on and "leaves the rest of the buffer"
@@ -74,9 +98,9 @@ read-granted : (verdict : Verdict) (a : Answer) (full buf : List ℕ) (c : ℕ) 
 read-granted consistent a full buf c e = (e, ap (λ (x : Answer). cond (granted x) full buf) e)
 read-granted (broken num p) a full buf c e = absurd (let z : _≡_ {A = ℕ} 0 1 = cc in omega arith)
 
-read-left : (verdict : Verdict) (a : Answer) (full buf : List ℕ) → granted (checkedFilled verdict buf (record { answer = a; buffer = cond (granted a) full buf }) .answer) ≡ false → checkedFilled verdict buf (record { answer = a; buffer = cond (granted a) full buf }) .buffer ≡ buf
-read-left consistent a full buf e = ap (λ (x : Bool). cond x full buf) e
-read-left (broken num p) a full buf e = refl
+read-left : (verdict : Verdict) (a : Answer) (full buf : List ℕ) → T (not (granted (checkedFilled verdict buf (record { answer = a; buffer = cond (granted a) full buf }) .answer))) → checkedFilled verdict buf (record { answer = a; buffer = cond (granted a) full buf }) .buffer ≡ buf
+read-left consistent a full buf t = cond-no (granted a) full buf t
+read-left (broken num p) a full buf t = refl
 
 module _ (B : ℕ) (img : List ℕ) (h o : ℕ) (buf : List ℕ) where
   -- of every granted read
@@ -96,7 +120,7 @@ module _ (B : ℕ) (img : List ℕ) (h o : ℕ) (buf : List ℕ) where
       }
 
   -- "A refusal leaves .. lent buffers unchanged"
-  pub read-refused : granted (read B img h o buf .answer) ≡ false → read B img h o buf .buffer ≡ buf
+  pub read-refused : T (not (granted (read B img h o buf .answer))) → read B img h o buf .buffer ≡ buf
   unfolding read
-  read-refused e =
-      read-left (check B img) (transferView B (view B img) h o (length buf)) (readBuffer B (view B img) img (slotWith B (view B img) h) o buf) buf e
+  read-refused t =
+      read-left (check B img) (transferView B (view B img) h o (length buf)) (readBuffer B (view B img) img (slotWith B (view B img) h) o buf) buf t

@@ -111,10 +111,10 @@ module _ (B : ℕ) (sz : BlockSize B) (img : List ℕ) (ok : Consistent B img) (
       (sym (ap (λ (x : List ℕ). slot x s) (view-dir B new ∙ new-dir) ∙ slot-set B (v .dir) s (zeros 20) length-dir hit refl)) tt
 
   -- no file of the new volume is in the slot
-  other : (t : ℕ) → File B v′ t → t ≢ s
+  pub other : (t : ℕ) → File B v′ t → t ≢ s
   other t f e = T-not (free v′ t) (f .taken) (subst (λ (x : ℕ). T (free v′ x)) (sym e) freed)
 
-  old : (t : ℕ) → File B v′ t → File B v t
+  pub old : (t : ℕ) → File B v′ t → File B v t
   old t f = file-from B img new s frame t (other t f) f
 
   other-owner : (o : Owner) (b : ℕ) → Owns B v′ o b → slotIn o ≢ s

@@ -1,27 +1,19 @@
 -- What a view takes from its image.
-use mathlib.Core.Path.{_≡_, refl, sym, ap, ap₂, _∙_, subst}
-use mathlib.Core.Logic.{_≢_, _⊎_, inl, inr, ⊎-elim}
-use mathlib.Core.Bool.{Bool, true, false, not, cond, _&&_}
-use Prim.Native.Nat.{ℕ, zero, suc, _+_, _-_, _*_, _/_, _%_, _≤_, _<_, min}
-use mathlib.Core.List.{List, [], _∷_, _++_}
+use mathlib.Core.Path.{_≡_, refl, ap, _∙_, subst}
+use mathlib.Core.Bool.{cond}
+use Prim.Native.Nat.{ℕ, _+_, _≤_, _<_}
+use mathlib.Core.List.{List, []}
 use native.Mathlib.Omega.{arith}
 use native.Mathlib.Nat.{zero-add}
 use native.Mathlib.Decide.{decLt}
-use lib.ListN.{length, getD, List·getD-eq-default}
-use lib.Dec.{T, leb, ltb, eqb, leb→le, ltb→lt, le→leb, lt→ltb, eqb→eq, T-not}
-use Rattle.lists.specs.Test.{allZero, by-test, cond-yes, cond-no, and-of, and-l, and-r}
-use Rattle.lists.specs.Table.{table, getD-table, getD-table-out, table-cong}
-use Rattle.lists.specs.Part.{part, length-part, part-ext}
+use lib.ListN.{getD}
+use lib.Dec.{T, leb, ltb, le→leb, lt→ltb}
+use Rattle.lists.specs.Test.{allZero, zero-bytes, by-test, cond-yes, and-of}
+use Rattle.lists.specs.Table.{getD-table, getD-table-out}
 use Rattle.lists.specs.Word.{word}
-use Rattle.tfs_rules.specs.Layout.{BlockSize, slots, blocks, block, slot, slotInode, slotFree, slotUsed, inRange, inodeSize, inodeNumber}
-use Rattle.tfs_rules.specs.View.{View, view, viewN, inodeAt, free, used, inode, size, number}
-use Rattle.tfs_rules.specs.Consistent.{File, Inside, Sound, Consistent}
-use Rattle.tfs_laws.specs.Sizes.{in-image}
-
-pub zero-bytes : (l : List ℕ) → T (allZero l) → (i : ℕ) → getD l i 0 ≡ 0
-zero-bytes [] t i = refl
-zero-bytes (x ∷ xs) t zero = eqb→eq x 0 (and-l (eqb x 0) (allZero xs) t)
-zero-bytes (x ∷ xs) t (suc i) = zero-bytes xs (and-r (eqb x 0) (allZero xs) t) i
+use Rattle.tfs_rules.specs.Layout.{slots, blocks, block, slot, slotInode, slotFree, inRange, inodeSize}
+use Rattle.tfs_rules.specs.View.{View, view, viewN, inodeAt, free, inode, size}
+use Rattle.tfs_rules.specs.Consistent.{File, Inside}
 
 pub zero-word : (l : List ℕ) (p : ℕ) → T (allZero l) → word l p ≡ 0
 unfolding word

@@ -1,5 +1,5 @@
 -- What the check means: it grants exactly the consistent volumes, and otherwise gives the first broken rule at its lowest place.
-use mathlib.Core.Path.{_≡_, refl, sym, ap, ap₂, subst}
+use mathlib.Core.Path.{_≡_, refl, sym, ap, ap₂, _∙_, subst}
 use mathlib.Core.Logic.{_⊎_, inl, inr, ⊎-elim, _≢_, _↔_}
 use mathlib.Core.Bool.{Bool, true, false, not, cond, _&&_, _||_, Bool·beq}
 use Prim.Native.Nat.{ℕ, suc, _+_, _-_, _*_, _≤_, _<_}
@@ -8,17 +8,18 @@ use native.Mathlib.Nat.{div-lt-iff-lt-mul, suc-mul}
 use native.Mathlib.Omega.{arith}
 use native.Mathlib.Decide.{decLe, decLt, ℕ-discrete}
 use lib.Arith.{le→nltb}
-use lib.ListN.{length, getD}
+use lib.ListN.{length, getD, take, drop, length-drop}
+use lib.Seq.{length-take-le, getD-drop}
 use lib.Dec.{T, leb, ltb, eqb, eqb→eq, leb→le, le→leb, ltb→lt, lt→ltb, nleb→lt, nltb→le, T-not, not-T}
-use Rattle.lists.specs.Test.{by-test, cond-yes, cond-no, and-of, and-l, and-r, or-l, or-r, or-second, yes-yes, eqb-of, neqb-of, same-eq, same-refl}
-use Rattle.lists.specs.Least.{least, least-hit, least-below, least-none, least-all}
-use Rattle.lists.specs.Name.{zeroAt, firstZero}
+use Rattle.lists.specs.Test.{allZero, zero-bytes, all-zero, by-test, cond-yes, cond-no, and-of, and-l, and-r, or-l, or-r, or-second, yes-yes, eqb-of, neqb-of, same-eq, same-refl}
+use Rattle.lists.specs.Least.{least, least-hit, least-below, least-none, least-is, least-all}
+use Rattle.lists.specs.Name.{zeroAt, firstZero, upToZero}
 use Rattle.lists.specs.Part.{length-part}
 use Rattle.lists.specs.Word.{word}
-use Rattle.tfs_rules.specs.Layout.{BlockSize, slots, numbers, maxSize, need, block, slot, slotInode, slotUsed, magic, volumeName, inRange, mapBit, sameName}
+use Rattle.tfs_rules.specs.Layout.{BlockSize, slots, numbers, maxSize, need, block, slot, slotInode, nameField, slotName, slotFree, nameFormed, slotUsed, magic, volumeName, inRange, mapBit, sameName}
 use Rattle.tfs_rules.specs.View.{View, viewN, view, free, used, inode, name, size, number}
 use Rattle.tfs_rules.specs.Check.{Verdict, consistent, broken, found, tooShort, badMagic, badLabel, repeats, badSlot, badNumber, badInode, claims, times, claimedTwice, badBit, checkView, check}
-use Rattle.tfs_rules.specs.Consistent.{File, Owner, inodeOf, contentOf, Owns, Owned, Inside, Sound, Consistent, WrongNumber, Broken, short, unmagical, unlabelled, malformed, repeated, oversized, misnumbered, twice, unmarked, stray, FirstBroken}
+use Rattle.tfs_rules.specs.Consistent.{File, Owner, inodeOf, contentOf, Owns, Owned, Inside, Named, Sound, Consistent, WrongNumber, Broken, short, unmagical, unlabelled, malformed, repeated, oversized, misnumbered, twice, unmarked, stray, FirstBroken}
 use Rattle.tfs_rules.specs.Claims.{owned-claimed, claimed-owned, owners-twice, twice-owners}
 
 -- ---- a rule in the order of rules
@@ -85,6 +86,87 @@ in-range v b t = record { low = leb→le 3 b (and-l (leb 3 b) _ t); high = ltb�
 
 pub range-in : (v : View) (b : ℕ) → Inside v b → T (inRange (v .n) b)
 range-in v b h = and-of (leb 3 b) (ltb b (v .n)) (le→leb 3 b (h .low)) (lt→ltb b (v .n) (h .high))
+
+-- ---- what the tests on a slot say, with no search
+-- a field that holds a name of k bytes has its first zero there
+module _ (f : List ℕ) (k : ℕ) (e : length f ≡ 16) (h : Named f k) where
+  named-end : firstZero f ≡ k
+  unfolding firstZero zeroAt
+  named-end =
+      least-is (zeroAt f) (length f) k (omega (arith, h .short)) (eqb-of (h .zeros k (omega arith) (h .short)))
+      (λ i l. neqb-of (getD f i 0) 0 (h .bytes i l))
+
+  -- the name is the bytes before it
+  pub name-is : upToZero f ≡ take k f
+  unfolding upToZero
+  name-is = ap (λ (i : ℕ). take i f) named-end
+
+  pub name-length : length (upToZero f) ≡ k
+  name-length = ap length name-is ∙ length-take-le k f (omega (arith, h .short))
+
+  named-formed : T (nameFormed f)
+  unfolding nameFormed
+  named-formed =
+      rw named-end
+      (and-of (leb 1 k && ltb k 16) (allZero (drop k f))
+      (and-of (leb 1 k) (ltb k 16) (le→leb 1 k (h .some)) (lt→ltb k 16 (omega (arith, h .short))))
+      (all-zero (drop k f) (λ i l. getD-drop k f i 0 ∙ h .zeros (k + i) (omega arith) (omega (arith, length-drop k f)))))
+
+formed-name : (f : List ℕ) → length f ≡ 16 → T (nameFormed f) → Named f (firstZero f)
+unfolding nameFormed firstZero zeroAt
+formed-name f e t =
+    let k : ℕ = least (zeroAt f) (length f) in
+    let r : T (leb 1 k && ltb k 16) = and-l (leb 1 k && ltb k 16) (allZero (drop k f)) t in
+    let l : k < 16 = ltb→lt k 16 (and-r (leb 1 k) (ltb k 16) r) in
+    record {
+      some = leb→le 1 k (and-l (leb 1 k) (ltb k 16) r);
+      short = omega arith;
+      bytes = λ i j z. T-not (zeroAt f i) (least-below (zeroAt f) (length f) i j) (eqb-of z);
+      zeros = λ i j m.
+          (let a : k + (i - k) ≡ i = omega arith in
+          ap (λ (x : ℕ). getD f x 0) (sym a) ∙ sym (getD-drop k f (i - k) 0) ∙ zero-bytes (drop k f) (and-r (leb 1 k && ltb k 16) (allZero (drop k f)) t) (i - k));
+    }
+
+-- "name of 1 to 15 bytes, then zeros to the end"
+pub formed-named : (f : List ℕ) → length f ≡ 16 → T (nameFormed f) ↔ ((k : ℕ) × Named f k)
+formed-named f e = ((λ t. (firstZero f, formed-name f e t)), λ n. named-formed f (n .0) e (n .1))
+
+-- whether names are the same is whether they are equal
+pub same-means : (a b : List ℕ) → T (sameName a b) ↔ (a ≡ b)
+unfolding sameName
+same-means a b = (same-eq a b, λ e. rw e (same-refl b))
+
+-- of slot s of a directory of B bytes
+module _ (B : ℕ) (v : View) (s : ℕ) (dir : length (v .dir) ≡ B) (low : s < slots B) where
+  pub length-slot : length (slot (v .dir) s) ≡ 20
+  unfolding slot
+  length-slot = length-part (s * 20) 20 (v .dir) (omega arith)
+
+  pub length-field : length (nameField (slot (v .dir) s)) ≡ 16
+  length-field = length-part 4 16 (slot (v .dir) s) (omega (arith, length-slot))
+
+  -- "free (20 zero bytes)"
+  pub free-means : T (free v s) ↔ ((i : ℕ) → i < 20 → getD (slot (v .dir) s) i 0 ≡ 0)
+  unfolding free slotFree
+  free-means = (
+    (λ t i l. zero-bytes (slot (v .dir) s) t i),
+    λ h. all-zero (slot (v .dir) s) (λ i l. h i (omega (arith, length-slot))),
+  )
+
+  -- "used (inode in 3..N−1; name of 1 to 15 bytes, then zeros to the end)"
+  pub used-means : T (used v s) ↔ (Inside v (inode v s) × ((k : ℕ) × Named (nameField (slot (v .dir) s)) k))
+  unfolding used slotUsed inode
+  used-means =
+      let i : ℕ = slotInode (slot (v .dir) s) in
+      let f : List ℕ = nameField (slot (v .dir) s) in (
+        (λ t. (in-range v i (and-l (inRange (v .n) i) _ t), formed-named f length-field .0 (and-r (inRange (v .n) i) (nameFormed f) t))),
+        λ h. and-of (inRange (v .n) i) (nameFormed f) (range-in v i (h .0)) (formed-named f length-field .1 (h .1)),
+      )
+
+  -- the name of a used slot is those bytes
+  pub name-means : (k : ℕ) → Named (nameField (slot (v .dir) s)) k → name v s ≡ take k (nameField (slot (v .dir) s))
+  unfolding name slotName
+  name-means k h = name-is (nameField (slot (v .dir) s)) k length-field h
 
 -- a test that holds somewhere below n is found
 least-found : (f : ℕ → Bool) (n i : ℕ) → i < n → T (f i) → least f n < n

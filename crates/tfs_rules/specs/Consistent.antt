@@ -1,4 +1,6 @@
--- What a consistent volume is, in plain facts, with no search in it; and what it is for each rule to be broken at a place.
+-- What a consistent volume is, in plain facts; and what it is for each rule to be broken at a place.
+-- Of a slot it says `free`, `used`, `name` and `sameName`, and `used` and `name` look for the zero that ends the name:
+-- CheckMeans.antt gives all four as plain facts with no search (free-means, used-means, name-means, same-means).
 -- CheckMeans.antt proves that the check grants exactly the consistent volumes, and gives exactly the first broken rule at its lowest place.
 use mathlib.Core.Path.{_≡_}
 use mathlib.Core.Logic.{_⊎_, _≢_, _↔_}
@@ -32,6 +34,13 @@ Owned B v b = (o : Owner) × Owns B v o b
 pub record Inside (v : View) (b : ℕ) : Type 0 where
   pub low : 3 ≤ b
   pub high : b < v .n
+
+-- "name of 1 to 15 bytes, then zeros to the end": the 16 bytes f hold a name of k bytes
+pub record Named (f : List ℕ) (k : ℕ) : Type 0 where
+  pub some : 1 ≤ k
+  pub short : k ≤ 15
+  pub bytes : (i : ℕ) → i < k → getD f i 0 ≢ 0
+  pub zeros : (i : ℕ) → k ≤ i → i ≤ 15 → getD f i 0 ≡ 0
 
 pub record Sound (B : ℕ) (v : View) : Type 0 where
   -- each slot is free or used

@@ -11,7 +11,7 @@ use Rattle.lists.specs.Word.{word, bytes4, words}
 use Rattle.lists.specs.Bits.{bitOf, withBit}
 use Rattle.lists.specs.Part.{part, withPart}
 
--- block sizes for which the laws hold: large enough for the header, and whole 32-bit words
+-- block sizes for which the laws hold: 512, the smallest block size there is, or larger, and whole 32-bit words
 pub record BlockSize (B : ℕ) : Type 0 where
   pub large : 512 ≤ B
   pub whole : B % 4 ≡ 0
@@ -57,7 +57,7 @@ volumeName head = part 4 16 head
 
 -- ---- block 1, the map
 -- "block b is bit (b mod 32), counted from the least significant, of 32-bit word (b div 32)":
--- big-endian, so bit (b mod 8) of this byte (MapWords.antt proves that the two are the same)
+-- big-endian, so bit (b mod 8) of this byte (MapWords.antt proves that the two are the same, for a map of bytes)
 abbrev pub mapByte : ℕ → ℕ
 mapByte b = 4 * (b / 32) + (3 - b % 32 / 8)
 

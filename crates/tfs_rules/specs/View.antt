@@ -1,4 +1,5 @@
--- What a volume says outside its content: a view. The check, every answer and the place of every byte are functions of it.
+-- What a volume says outside its content: a view.
+-- The check beyond rule 1 (the image's length), every answer after the check and the place of every byte are functions of it.
 use mathlib.Core.Bool.{Bool, true, false, not, cond, _&&_, _||_}
 use Prim.Native.Nat.{ℕ, zero, suc, _+_, _-_, _*_, _/_, _%_}
 use mathlib.Core.List.{List, [], _∷_, _++_}

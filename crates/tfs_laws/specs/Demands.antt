@@ -1,0 +1,197 @@
+-- Demands 1 and 2 at the block size 512: one record and one claim for each sentence.
+-- Each file that is named here proves its law over any block size. Laws.antt has the laws of demand 3.
+use mathlib.Core.Path.{_≡_, refl, sym, ap, ap₂, _∙_, subst}
+use mathlib.Core.Logic.{_↔_}
+use mathlib.Core.Bool.{not}
+use mathlib.Core.Option.{none}
+use Prim.Native.Nat.{ℕ, _+_, _*_, _≤_}
+use mathlib.Core.List.{List}
+use native.Mathlib.Omega.{arith}
+use lib.ListN.{length, getD}
+use lib.Dec.{T}
+use Rattle.tfs_rules.specs.Layout.{blocks, labelAllowed}
+use Rattle.tfs_rules.specs.View.{view, freeBlocks, contents}
+use Rattle.tfs_rules.specs.Check.{Verdict, consistent, broken, check}
+use Rattle.tfs_rules.specs.Consistent.{Consistent, FirstBroken}
+use Rattle.tfs_rules.specs.CheckMeans.{check-means, check-breaks}
+use Rattle.tfs_rules.specs.Requests.{Answer, done, value, refused, granted, checked, format, checkAnswer, openAnswer, create, remove, read, write, listAnswer, freeAnswer}
+use Rattle.tfs_rules.specs.Total.{inodeCount, contentCount, adds-up}
+use Rattle.tfs_laws.specs.Views.{view-n}
+use Rattle.tfs_laws.specs.Changes.{Change, creates, removes, writes, perform, refused-keeps, Changed, changed, stays-consistent}
+use Rattle.tfs_laws.specs.Formats.{format-refused, format-grants, format-consistent, format-empty, format-past, format-length}
+use Rattle.tfs_laws.specs.Reads.{ReadLaw, read-law, read-refused}
+use Rattle.tfs_laws.specs.Handles.{Means, HandleRefused, open-means, open-number, removed-refused, created-handle, KeptHandle, kept-handle}
+use Rattle.tfs_laws.specs.Kept.{KeptLaw, create-kept, remove-kept, write-kept}
+use Rattle.tfs_laws.specs.Tail.{TailKept, tail-kept, SameVolume, TailLaw, tail-unread}
+use Rattle.tfs_laws.specs.Ignored.{SameRead, IgnoredLaw, ignored}
+use Rattle.tfs_laws.specs.Laws.{size-512}
+
+-- ---- demand 1
+-- "Every request but format refuses a volume that breaks the rules, with the first fault and its place",
+-- and leaves the image and the buffer as they were
+pub record FaultLaw (img : List ℕ) (num p : ℕ) : Type 0 where
+  pub on-check : checkAnswer 512 img ≡ refused num p
+  pub on-open : (nm : List ℕ) → openAnswer 512 img nm ≡ refused num p
+  pub on-create : (nm : List ℕ) (z : ℕ) → create 512 img nm z ≡ record { answer = refused num p; image = img }
+  pub on-remove : (nm : List ℕ) → remove 512 img nm ≡ record { answer = refused num p; image = img }
+  pub on-read : (h o : ℕ) (buf : List ℕ) → read 512 img h o buf ≡ record { answer = refused num p; buffer = buf }
+  pub on-write : (h o : ℕ) (buf : List ℕ) → write 512 img h o buf ≡ record { answer = refused num p; image = img }
+  pub on-list : (s : ℕ) → listAnswer 512 img s ≡ refused num p
+  pub on-free : freeAnswer 512 img ≡ refused num p
+
+pub fault-law : (img : List ℕ) (num p : ℕ) → FirstBroken 512 img num p → FaultLaw img num p
+unfolding checkAnswer openAnswer create remove read write listAnswer freeAnswer
+fault-law img num p first =
+    let e : check 512 img ≡ broken num p = check-breaks 512 size-512 img num p .1 first in
+    record {
+      on-check = rw e;
+      on-open = λ nm. rw e;
+      on-create = λ nm z. rw e;
+      on-remove = λ nm. rw e;
+      on-read = λ h o buf. rw e;
+      on-write = λ h o buf. rw e;
+      on-list = λ s. rw e;
+      on-free = rw e;
+    }
+
+-- "A refused request changes no byte of the image or of any buffer"
+pub record RefusalLaw (img : List ℕ) : Type 0 where
+  pub on-format : (label : List ℕ) → T (not (granted (format 512 img label .answer))) → format 512 img label .image ≡ img
+  pub on-create : (nm : List ℕ) (z : ℕ) → T (not (granted (create 512 img nm z .answer))) → create 512 img nm z .image ≡ img
+  pub on-remove : (nm : List ℕ) → T (not (granted (remove 512 img nm .answer))) → remove 512 img nm .image ≡ img
+  pub on-write : (h o : ℕ) (buf : List ℕ) → T (not (granted (write 512 img h o buf .answer))) → write 512 img h o buf .image ≡ img
+  pub on-read : (h o : ℕ) (buf : List ℕ) → T (not (granted (read 512 img h o buf .answer))) → read 512 img h o buf .buffer ≡ buf
+
+-- on every image, consistent or not
+pub refusals-keep : (img : List ℕ) → RefusalLaw img
+unfolding perform
+refusals-keep img =
+    record {
+      on-format = format-refused 512 img;
+      on-create = λ nm z. refused-keeps 512 img (creates nm z);
+      on-remove = λ nm. refused-keeps 512 img (removes nm);
+      on-write = λ h o buf. refused-keeps 512 img (writes h o buf);
+      on-read = λ h o buf. read-refused 512 img h o buf;
+    }
+
+-- ---- demand 2
+-- the check grants exactly the consistent volumes, and refuses with the first broken rule at its lowest place
+pub record CheckLaw (img : List ℕ) : Type 0 where
+  pub passes : (check 512 img ≡ consistent) ↔ Consistent 512 img
+  pub breaks : (num p : ℕ) → (check 512 img ≡ broken num p) ↔ FirstBroken 512 img num p
+  -- the same by the answer
+  pub grants : (checkAnswer 512 img ≡ done) ↔ Consistent 512 img
+  pub refuses : (num p : ℕ) → (checkAnswer 512 img ≡ refused num p) ↔ FirstBroken 512 img num p
+
+-- an answer of check tells the verdict
+told-done : (x : Verdict) → (checked x done ≡ done) ↔ (x ≡ consistent)
+told-done consistent = ((λ _. refl), λ _. refl)
+told-done (broken num p) =
+    ((λ e. absurd (let z : _≡_ {A = ℕ} 0 1 = cc in omega arith)), λ e. absurd (let z : _≡_ {A = ℕ} 0 1 = cc in omega arith))
+
+told-broken : (x : Verdict) (num p : ℕ) → (checked x done ≡ refused num p) ↔ (x ≡ broken num p)
+told-broken consistent num p =
+    ((λ e. absurd (let z : _≡_ {A = ℕ} 0 1 = cc in omega arith)), λ e. absurd (let z : _≡_ {A = ℕ} 0 1 = cc in omega arith))
+told-broken (broken m q) num p = ((λ e. ap₂ broken (cc) (cc)), λ e. ap₂ refused (cc) (cc))
+
+pub check-law : (img : List ℕ) → CheckLaw img
+unfolding checkAnswer
+check-law img =
+    let means = check-means 512 size-512 img in
+    let says = check-breaks 512 size-512 img in
+    record {
+      passes = means;
+      breaks = says;
+      grants = ((λ e. means .0 (told-done (check 512 img) .0 e)), λ ok. told-done (check 512 img) .1 (means .1 ok));
+      refuses = λ num p.
+          ((λ e. says num p .0 (told-broken (check 512 img) num p .0 e)), λ first. told-broken (check 512 img) num p .1 (says num p .1 first));
+    }
+
+-- "The volume stays consistent", and a granted request changes what stands under one name:
+-- every other name keeps its size and bytes
+pub record EffectLaw (img : List ℕ) : Type 0 where
+  pub stays : (c : Change) → Consistent 512 (perform 512 img c .image)
+  pub changes : (c : Change) → T (granted (perform 512 img c .answer)) → Changed 512 img c
+
+pub effect-law : (img : List ℕ) → Consistent 512 img → EffectLaw img
+effect-law img ok = record { stays = stays-consistent 512 size-512 img ok; changes = changed 512 size-512 img ok }
+
+-- format grants every image of 1,536 bytes or more and every allowed name,
+-- and leaves a consistent volume in which no name stands; every byte from 1,536 on and the length are as before
+pub record FormatLaw (img label : List ℕ) : Type 0 where
+  pub answer : format 512 img label .answer ≡ done
+  pub consistent : Consistent 512 (format 512 img label .image)
+  pub empty : (nm : List ℕ) → contents 512 (format 512 img label .image) nm ≡ none
+  pub past : (q : ℕ) → 1536 ≤ q → getD (format 512 img label .image) q 0 ≡ getD img q 0
+  pub long : length (format 512 img label .image) ≡ length img
+
+pub format-law : (img label : List ℕ) → 1536 ≤ length img → T (labelAllowed label) → FormatLaw img label
+format-law img label h t =
+    let e : format 512 img label .answer ≡ done = format-grants size-512 img label h t in
+    let g : T (granted (format 512 img label .answer)) = subst (λ (a : Answer). T (granted a)) (sym e) tt in
+    record {
+      answer = e;
+      consistent = format-consistent size-512 img label g;
+      empty = format-empty size-512 img label g;
+      past = format-past size-512 img label;
+      long = format-length size-512 img label;
+    }
+
+-- read's bytes are those of the file from the offset on; the rest of the buffer is left
+pub read-law-512 : (img : List ℕ) (h o : ℕ) (buf : List ℕ) (c : ℕ) → read 512 img h o buf .answer ≡ value c → ReadLaw 512 img h o buf c
+read-law-512 img h o buf c e = read-law 512 img h o buf c e
+
+-- what handles mean
+pub record HandleLaw (img : List ℕ) : Type 0 where
+  -- open's and create's handles mean the named file
+  pub opened : (nm : List ℕ) (h : ℕ) → openAnswer 512 img nm ≡ value h → Means 512 (view 512 img) h nm
+  pub created : (nm : List ℕ) (z h : ℕ) → create 512 img nm z .answer ≡ value h → Means 512 (view 512 (create 512 img nm z .image)) h nm
+  -- "A handle kept over a remove is refused, or means the new file if a create has taken that block as its inode"
+  pub removed : (nm : List ℕ) (k : ℕ) → openAnswer 512 img nm ≡ value k → T (granted (remove 512 img nm .answer)) → HandleRefused 512 (remove 512 img nm .image) k
+  pub kept : (nm other : List ℕ) (z h k : ℕ) → openAnswer 512 img nm ≡ value k → T (granted (remove 512 img nm .answer)) → create 512 (remove 512 img nm .image) other z .answer ≡ value h → KeptHandle 512 (create 512 (remove 512 img nm .image) other z .image) other h k
+
+pub handle-law : (img : List ℕ) → Consistent 512 img → HandleLaw img
+handle-law img ok =
+    record {
+      opened = open-means 512 size-512 img ok;
+      created = created-handle 512 size-512 img ok;
+      removed = λ nm k e g.
+          subst (HandleRefused 512 (remove 512 img nm .image)) (open-number 512 size-512 img ok nm k e) (removed-refused 512 size-512 img ok nm g);
+      kept = λ nm other z h k e g c.
+          subst (KeptHandle 512 (create 512 (remove 512 img nm .image) other z .image) other h) (open-number 512 size-512 img ok nm k e)
+          (kept-handle 512 size-512 img ok nm other z h g c);
+    }
+
+-- "ignored and kept": create, remove and write keep block 0, bytes 500..511 of block 2 and the map's bits from N on
+pub record KeepLaw (img : List ℕ) : Type 0 where
+  pub created : (nm : List ℕ) (z : ℕ) → KeptLaw 512 img (create 512 img nm z .image)
+  pub removed : (nm : List ℕ) → KeptLaw 512 img (remove 512 img nm .image)
+  pub written : (h o : ℕ) (buf : List ℕ) → KeptLaw 512 img (write 512 img h o buf .image)
+
+pub kept-law : (img : List ℕ) → KeepLaw img
+kept-law img = record { created = create-kept size-512 img; removed = remove-kept size-512 img; written = write-kept size-512 img }
+
+-- the rest of block 0, those bytes and those bits have no say in any answer, nor in what read gives
+pub ignored-law : (a b : List ℕ) → SameRead 512 a b → IgnoredLaw 512 a b
+ignored-law a b same = ignored 512 size-512 a b same
+
+-- "Bytes from 512·N on are never read or changed"
+pub record BeyondLaw (img : List ℕ) : Type 0 where
+  pub unchanged : TailKept 512 img
+  pub unread : (b : List ℕ) → SameVolume 512 img b → TailLaw 512 img b
+
+pub tail-law : (img : List ℕ) → BeyondLaw img
+tail-law img = record { unchanged = tail-kept size-512 img; unread = tail-unread size-512 img }
+
+-- free bytes are "512 times the zero bits below N"; "Blocks 0 to 2, inodes, content blocks and free blocks add up to N"
+pub record TotalLaw (img : List ℕ) : Type 0 where
+  pub bytes : freeAnswer 512 img ≡ value (512 * freeBlocks (view 512 img))
+  pub total : 3 + inodeCount 512 (view 512 img) + contentCount 512 (view 512 img) + freeBlocks (view 512 img) ≡ blocks 512 img
+
+pub total-law : (img : List ℕ) → Consistent 512 img → TotalLaw img
+unfolding freeAnswer
+total-law img ok =
+    record {
+      bytes = ap (λ (x : Verdict). checked x (value (512 * freeBlocks (view 512 img)))) (check-means 512 size-512 img .1 ok);
+      total = adds-up 512 size-512 img ok ∙ view-n 512 img;
+    }

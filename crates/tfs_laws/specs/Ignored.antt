@@ -1,0 +1,325 @@
+-- What the rules ignore has no say: the rest of block 0, map bits from N on, the bytes of block 2 behind the slots.
+use mathlib.Core.Path.{_≡_, refl, sym, ap, ap₂, _∙_, subst}
+use mathlib.Core.Logic.{_≢_}
+use mathlib.Core.Bool.{Bool, true, false, not, cond, _&&_, _||_, Bool·beq}
+use Prim.Native.Nat.{ℕ, zero, suc, _+_, _-_, _*_, _/_, _%_, _≤_, _<_, min}
+use mathlib.Core.List.{List, [], _∷_, _++_}
+use native.Mathlib.Omega.{arith}
+use native.Mathlib.Nat.{zero-add}
+use lib.ListN.{length, getD, take, drop, length-take, length-drop}
+use lib.Dec.{T, leb, ltb, eqb, leb→le, ltb→lt}
+use Rattle.lists.specs.Test.{by-test, cond-yes, cond-no, and-l}
+use Rattle.lists.specs.Least.{least, least-cong}
+use Rattle.lists.specs.Sum.{sum, sum-cong}
+use Rattle.lists.specs.Name.{firstZero}
+use Rattle.lists.specs.Table.{table, table-cong}
+use Rattle.lists.specs.Word.{word, word-cong}
+use Rattle.lists.specs.Part.{part, getD-part, part-ext}
+use Rattle.tfs_rules.specs.Layout.{BlockSize, slots, numbers, maxSize, need, blocks, block, slot, slotInode, slotName, slotFree, slotUsed, inRange, sameName, mapBit, magic, volumeName, nameAllowed, inodeSize, inodeNumber}
+use Rattle.tfs_rules.specs.View.{View, view, viewN, inodeAt, free, used, inode, name, size, number, slotOf, slotWith, freeSlot, place, freeBlocks}
+use Rattle.tfs_rules.specs.Check.{Verdict, consistent, broken, found, tooShort, badMagic, badLabel, repeats, badSlot, badNumber, badInode, fileClaims, claimsTo, claims, claimedTwice, badBit, checkView, check, times}
+use Rattle.tfs_rules.specs.Requests.{Answer, value, refused, unused, file, granted, checked, checkedOutcome, checkedFilled, readBuffer, openView, openAnswer, freeFrom, chosen, createView, create, removeView, remove, counted, transferView, read, write, listView, listAnswer, freeAnswer}
+use Rattle.tfs_laws.specs.Views.{view-n, view-head, view-map, view-dir}
+use Rattle.tfs_rules.specs.Consistent.{Inside, Sound}
+use Rattle.tfs_rules.specs.CheckMeans.{check-means}
+use Rattle.tfs_laws.specs.Sizes.{in-block}
+use Rattle.tfs_laws.specs.Places.{blocks-eq, position}
+use Rattle.tfs_laws.specs.Stores.{block-byte}
+
+-- two images that differ at most in what the rules ignore
+pub record SameRead (B : ℕ) (a b : List ℕ) : Type 0 where
+  pub long : length a ≡ length b
+  -- magic and volume name
+  pub head : part 0 20 (block B a 0) ≡ part 0 20 (block B b 0)
+  pub bits : (i : ℕ) → i < blocks B a → mapBit (block B a 1) i ≡ mapBit (block B b 1) i
+  pub slots-same : (t : ℕ) → t < slots B → slot (block B a 2) t ≡ slot (block B b 2) t
+  pub rest : (i : ℕ) → 3 ≤ i → block B a i ≡ block B b i
+
+-- two views that differ at most so
+record Alike (B : ℕ) (v w : View) : Type 0 where
+  n : v .n ≡ w .n
+  magic-word : word (v .head) 0 ≡ word (w .head) 0
+  label : volumeName (v .head) ≡ volumeName (w .head)
+  bits : (i : ℕ) → i < v .n → mapBit (v .map) i ≡ mapBit (w .map) i
+  slot-same : (t : ℕ) → t < slots B → slot (v .dir) t ≡ slot (w .dir) t
+  inodes : v .inodes ≡ w .inodes
+
+module _ (B : ℕ) (v w : View) (al : Alike B v w) where
+  size-alike : (s : ℕ) → size v s ≡ size w s
+  unfolding size
+  size-alike s = ap (λ (x : List (List ℕ)). inodeSize (getD x s [])) (al .inodes)
+
+  number-alike : (s k : ℕ) → number v s k ≡ number w s k
+  unfolding number
+  number-alike s k = ap (λ (x : List (List ℕ)). inodeNumber (getD x s []) k) (al .inodes)
+
+  module _ (t : ℕ) (h : t < slots B) where
+    free-alike : free v t ≡ free w t
+    unfolding free
+    free-alike = ap slotFree (al .slot-same t h)
+
+    used-alike : used v t ≡ used w t
+    unfolding used
+    used-alike = ap₂ slotUsed (al .n) (al .slot-same t h)
+
+    inode-alike : inode v t ≡ inode w t
+    unfolding inode
+    inode-alike = ap slotInode (al .slot-same t h)
+
+    name-alike : name v t ≡ name w t
+    unfolding name
+    name-alike = ap slotName (al .slot-same t h)
+
+  repeats-alike : (s : ℕ) → s < slots B → repeats v s ≡ repeats w s
+  unfolding repeats
+  repeats-alike s h =
+      ap (λ (x : ℕ). ltb x s)
+      (least-cong (λ t. not (free v t) && sameName (name v t) (name v s)) (λ t. not (free w t) && sameName (name w t) (name w s)) s
+      (λ t l i. not (free-alike t (omega arith) i) && sameName (name-alike t (omega arith) i) (name-alike s h i)))
+
+  bad-slot-alike : (s : ℕ) → s < slots B → badSlot v s ≡ badSlot w s
+  unfolding badSlot
+  bad-slot-alike s h = λ i. not (free-alike s h i) && (not (used-alike s h i) || repeats-alike s h i)
+
+  bad-number-alike : (s k : ℕ) → badNumber B v s k ≡ badNumber B w s k
+  unfolding badNumber
+  bad-number-alike s k = λ i.
+      cond (ltb k (need B (size-alike s i))) (not (inRange (al .n i) (number-alike s k i))) (not (eqb (number-alike s k i) 0))
+
+  bad-inode-alike : (s : ℕ) → s < slots B → badInode B v s ≡ badInode B w s
+  unfolding badInode
+  bad-inode-alike s h = λ i.
+      not (free-alike s h i)
+      && (ltb (maxSize B) (size-alike s i) || ltb (least-cong (badNumber B v s) (badNumber B w s) (numbers B) (λ k l. bad-number-alike s k) i) (numbers B))
+
+  claims-alike : (s : ℕ) → s < slots B → fileClaims B v s ≡ fileClaims B w s
+  unfolding fileClaims
+  claims-alike s h =
+      (λ i. cond (free-alike s h i) [] (inode-alike s h i ∷ table (number v s) 0 (need B (size-alike s i))))
+      ∙ ap (λ (x : List ℕ). cond (free w s) [] (inode w s ∷ x)) (table-cong (number v s) (number w s) 0 (need B (size w s)) (λ k a l. number-alike s k))
+
+  all-claims : (s : ℕ) → s ≤ slots B → claimsTo B v s ≡ claimsTo B w s
+  unfolding claimsTo
+  all-claims zero h = refl
+  all-claims (suc s) h = ap₂ (λ (x y : List ℕ). x ++ y) (all-claims s (omega arith)) (claims-alike s (omega arith))
+
+  check-alike : checkView B v ≡ checkView B w
+  unfolding checkView badMagic badLabel claims
+  check-alike =
+      let cs : claimsTo B v (slots B) ≡ claimsTo B w (slots B) = all-claims (slots B) (omega arith) in
+      let p7 : least (badBit v (claimsTo B v (slots B))) (v .n) ≡ least (badBit w (claimsTo B w (slots B))) (v .n) =
+      least-cong (badBit v (claimsTo B v (slots B))) (badBit w (claimsTo B w (slots B))) (v .n)
+      (λ b l i. not (Bool·beq (al .bits b l i) (ltb b 3 || leb 1 (times b (cs i)))))
+      in
+      let p6 : least (claimedTwice (claimsTo B v (slots B))) (v .n) ≡ least (claimedTwice (claimsTo B w (slots B))) (v .n) =
+      ap (λ (x : List ℕ). least (claimedTwice x) (v .n)) cs
+      in
+      let p5 : least (badInode B v) (slots B) ≡ least (badInode B w) (slots B) = least-cong (badInode B v) (badInode B w) (slots B) bad-inode-alike in
+      let p4 : least (badSlot v) (slots B) ≡ least (badSlot w) (slots B) = least-cong (badSlot v) (badSlot w) (slots B) bad-slot-alike in
+      (λ i.
+      cond (not (eqb (al .magic-word i) magic)) (broken 2 0)
+      (cond (leb 16 (firstZero (al .label i))) (broken 3 0)
+      (found 4 (slots B) (p4 i) (found 5 (slots B) (p5 i) (found 6 (v .n) (p6 i) (found 7 (v .n) (p7 i) consistent))))))
+      ∙ ap (λ (n : ℕ).
+      cond (not (eqb (word (w .head) 0) magic)) (broken 2 0)
+      (cond (leb 16 (firstZero (volumeName (w .head)))) (broken 3 0)
+      (found 4 (slots B) (least (badSlot w) (slots B)) (found 5 (slots B) (least (badInode B w) (slots B)) (found 6 n (least (claimedTwice (claimsTo B w (slots B))) n) (found 7 n (least (badBit w (claimsTo B w (slots B))) n) consistent)))))) (al .n)
+
+  slot-of-alike : (nm : List ℕ) → slotOf B v nm ≡ slotOf B w nm
+  unfolding slotOf
+  slot-of-alike nm =
+      least-cong (λ s. not (free v s) && sameName (name v s) nm) (λ s. not (free w s) && sameName (name w s) nm) (slots B)
+      (λ s h i. not (free-alike s h i) && sameName (name-alike s h i) nm)
+
+  slot-with-alike : (h : ℕ) → slotWith B v h ≡ slotWith B w h
+  unfolding slotWith
+  slot-with-alike h =
+      least-cong (λ s. not (free v s) && eqb (inode v s) h) (λ s. not (free w s) && eqb (inode w s) h) (slots B)
+      (λ s l i. not (free-alike s l i) && eqb (inode-alike s l i) h)
+
+  free-slot-alike : freeSlot B v ≡ freeSlot B w
+  unfolding freeSlot
+  free-slot-alike = least-cong (free v) (free w) (slots B) free-alike
+
+  room-alike : freeBlocks v ≡ freeBlocks w
+  unfolding freeBlocks
+  room-alike =
+      sum-cong (λ b. cond (not (mapBit (v .map) b)) 1 0) (λ b. cond (not (mapBit (w .map) b)) 1 0) (v .n) (λ b l. ap (λ (x : Bool). cond (not x) 1 0) (al .bits b l))
+      ∙ ap (sum (λ b. cond (not (mapBit (w .map) b)) 1 0)) (al .n)
+
+  free-from-alike : (d k : ℕ) → k + d ≤ v .n → freeFrom (v .map) k d ≡ freeFrom (w .map) k d
+  unfolding freeFrom
+  free-from-alike zero k h = refl
+  free-from-alike (suc d) k h = λ i.
+      cond (al .bits k (omega arith) i) (free-from-alike d (suc k) (omega arith) i) (k ∷ free-from-alike d (suc k) (omega arith) i)
+
+  chosen-alike : (z : ℕ) → chosen B v z ≡ chosen B w z
+  unfolding chosen
+  chosen-alike z =
+      ap (take (1 + need B z)) (free-from-alike (v .n) 0 (omega arith) ∙ ap (freeFrom (w .map) 0) (al .n))
+
+  create-alike : (nm : List ℕ) (z : ℕ) → createView B v nm z ≡ createView B w nm z
+  unfolding createView
+  create-alike nm z = λ i.
+      cond (not (nameAllowed nm)) (refused 8 0)
+      (cond (ltb (maxSize B) z) (refused 9 0)
+      (cond (ltb (slot-of-alike nm i) (slots B)) (refused 10 0)
+      (cond (not (ltb (free-slot-alike i) (slots B))) (refused 11 0)
+      (cond (ltb (room-alike i) (1 + need B z)) (refused 12 0) (value (getD (chosen-alike z i) 0 0))))))
+
+  remove-alike : (nm : List ℕ) → removeView B v nm ≡ removeView B w nm
+  unfolding removeView
+  remove-alike nm = ap (λ (s : ℕ). cond (not (nameAllowed nm)) (refused 8 0) (cond (not (ltb s (slots B))) (refused 13 0) Answer.done)) (slot-of-alike nm)
+
+  transfer-alike : (h o len : ℕ) → transferView B v h o len ≡ transferView B w h o len
+  unfolding transferView counted
+  transfer-alike h o len = λ i.
+      cond (not (ltb (slot-with-alike h i) (slots B))) (refused 14 0)
+      (cond (ltb (size-alike (slot-with-alike h i) i) o) (refused 15 0) (value (min len (size-alike (slot-with-alike h i) i - o))))
+
+  -- an answer that looks at a slot looks at one of the slots
+  at-slot : (s : ℕ) (x y : ℕ → Answer) (else : Answer) → ((t : ℕ) → t < slots B → x t ≡ y t) → cond (not (ltb s (slots B))) else (x s) ≡ cond (not (ltb s (slots B))) else (y s)
+  at-slot s x y else e =
+      by-test (ltb s (slots B))
+      (λ t. ap (cond (not (ltb s (slots B))) else) (e s (ltb→lt s (slots B) t)))
+      (λ t. cond-yes (not (ltb s (slots B))) else (x s) t ∙ sym (cond-yes (not (ltb s (slots B))) else (y s) t))
+
+  open-alike : (nm : List ℕ) → openView B v nm ≡ openView B w nm
+  unfolding openView
+  open-alike nm =
+      ap (cond (not (nameAllowed nm)) (refused 8 0))
+      (at-slot (slotOf B v nm) (λ s. value (inode v s)) (λ s. value (inode w s)) (refused 13 0) (λ t h. ap value (inode-alike t h))
+      ∙ ap (λ (s : ℕ). cond (not (ltb s (slots B))) (refused 13 0) (value (inode w s))) (slot-of-alike nm))
+
+  list-alike : (s : ℕ) → listView B v s ≡ listView B w s
+  unfolding listView
+  list-alike s =
+      at-slot s (λ t. cond (free v t) unused (file (name v t) (inode v t) (size v t))) (λ t. cond (free w t) unused (file (name w t) (inode w t) (size w t))) (refused 14 0)
+      (λ t h i. cond (free-alike t h i) unused (file (name-alike t h i) (inode-alike t h i) (size-alike t i)))
+
+-- ---- images
+module _ (B : ℕ) (size-ok : BlockSize B) (a b : List ℕ) (same : SameRead B a b) where
+  length-alike : (i : ℕ) → length (block B a i) ≡ length (block B b i)
+  unfolding block part
+  length-alike i =
+      length-take B (drop (i * B) a)
+      ∙ ap (min B) (length-drop (i * B) a ∙ ap (λ (n : ℕ). n - i * B) (same .long) ∙ sym (length-drop (i * B) b))
+      ∙ sym (length-take B (drop (i * B) b))
+
+  inode-at-alike : (s : ℕ) → s < slots B → inodeAt B (blocks B a) a s ≡ inodeAt B (blocks B b) b s
+  unfolding inodeAt
+  inode-at-alike s h =
+      let i : ℕ = slotInode (slot (block B b 2) s) in
+      ap₂ (λ (m : ℕ) (x : List ℕ). cond (inRange m (slotInode x)) (block B a (slotInode x)) []) (blocks-eq B a b (same .long)) (same .slots-same s h)
+      ∙ by-test (inRange (blocks B b) i)
+      (λ t. ap (λ (x : List ℕ). cond (inRange (blocks B b) i) x []) (same .rest i (leb→le 3 i (and-l (leb 3 i) _ t))))
+      (λ t. cond-no {X = List ℕ} (inRange (blocks B b) i) (block B a i) [] t ∙ sym (cond-no {X = List ℕ} (inRange (blocks B b) i) (block B b i) [] t))
+
+  inodes-same : view B a .inodes ≡ view B b .inodes
+  unfolding view viewN
+  inodes-same =
+      table-cong (inodeAt B (blocks B a) a) (inodeAt B (blocks B b) b) 0 (slots B) (λ s h l. inode-at-alike s (omega arith))
+
+  alike : Alike B (view B a) (view B b)
+  alike =
+      record {
+        n = view-n B a ∙ blocks-eq B a b (same .long) ∙ sym (view-n B b);
+        magic-word =
+            (ap (λ (x : List ℕ). word x 0) (view-head B a)
+            ∙ word-cong (block B a 0) (block B b 0) 0 0 (λ j h. head-byte (0 + j) (omega arith))
+            ∙ ap (λ (x : List ℕ). word x 0) (sym (view-head B b)));
+        label = ap volumeName (view-head B a) ∙ label-same ∙ ap volumeName (sym (view-head B b));
+        bits = λ i h.
+            (ap (λ (x : List ℕ). mapBit x i) (view-map B a) ∙ same .bits i (subst (λ (n : ℕ). i < n) (view-n B a) h) ∙ ap (λ (x : List ℕ). mapBit x i) (sym (view-map B b)));
+        slot-same = λ t h.
+            (ap (λ (x : List ℕ). slot x t) (view-dir B a) ∙ same .slots-same t h ∙ ap (λ (x : List ℕ). slot x t) (sym (view-dir B b)));
+        inodes = inodes-same;
+      }
+    where
+      head-byte : (i : ℕ) → i < 20 → getD (block B a 0) i 0 ≡ getD (block B b 0) i 0
+      head-byte i h =
+          ap (λ (x : ℕ). getD (block B a 0) x 0) (sym (zero-add i))
+          ∙ sym (getD-part 0 20 (block B a 0) i h)
+          ∙ ap (λ (x : List ℕ). getD x i 0) (same .head)
+          ∙ getD-part 0 20 (block B b 0) i h
+          ∙ ap (λ (x : ℕ). getD (block B b 0) x 0) (zero-add i)
+
+      label-same : volumeName (block B a 0) ≡ volumeName (block B b 0)
+      label-same =
+          part-ext 4 16 (block B a 0) (block B b 0) (length-alike 0) (λ i h. head-byte (4 + i) (omega arith))
+
+check-of : (B : ℕ) (a b : List ℕ) → length a ≡ length b → checkView B (view B a) ≡ checkView B (view B b) → check B a ≡ check B b
+unfolding check tooShort
+check-of B a b l e = λ i. cond (ltb (l i) (3 * B)) (broken 1 0) (e i)
+
+-- what the rules say of either image
+pub record IgnoredLaw (B : ℕ) (a b : List ℕ) : Type 0 where
+  pub check-same : check B a ≡ check B b
+  pub open-same : (nm : List ℕ) → openAnswer B a nm ≡ openAnswer B b nm
+  pub create-same : (nm : List ℕ) (z : ℕ) → create B a nm z .answer ≡ create B b nm z .answer
+  pub remove-same : (nm : List ℕ) → remove B a nm .answer ≡ remove B b nm .answer
+  pub read-same : (h o : ℕ) (buf : List ℕ) → read B a h o buf ≡ read B b h o buf
+  pub write-same : (h o : ℕ) (buf : List ℕ) → write B a h o buf .answer ≡ write B b h o buf .answer
+  pub list-same : (s : ℕ) → listAnswer B a s ≡ listAnswer B b s
+  pub free-same : freeAnswer B a ≡ freeAnswer B b
+
+outcome-answer : (f : Verdict) (img new : List ℕ) (x : Answer) → checkedOutcome f img (record { answer = x; image = cond (granted x) new img }) .answer ≡ checked f x
+outcome-answer consistent img new x = refl
+outcome-answer (broken num p) img new x = refl
+
+-- the bytes read lie in blocks of files, which are the same
+read-alike : (B : ℕ) → BlockSize B → (a b : List ℕ) → SameRead B a b → Alike B (view B a) (view B b) → check B a ≡ check B b → (h o : ℕ) (buf : List ℕ) → read B a h o buf ≡ read B b h o buf
+unfolding read readBuffer counted place
+read-alike B size-ok a b same al ch h o buf =
+    ap (λ (f : Verdict). checkedFilled f buf (record { answer = transferView B v h o (length buf); buffer = cond (granted (transferView B v h o (length buf))) (readBuffer B v a (slotWith B v h) o buf) buf })) ch
+    ∙ go (check B b) refl
+  where
+    v : View
+    v = view B a
+
+    w : View
+    w = view B b
+
+    ta : transferView B v h o (length buf) ≡ transferView B w h o (length buf)
+    ta = transfer-alike B v w al h o (length buf)
+
+    same-bytes : Sound B w → (s : ℕ) → readBuffer B v a s o buf ≡ readBuffer B w b s o buf
+    same-bytes ok s =
+        ap (λ (z : ℕ). table (λ p. getD a (number v s (p / B) * B + p % B) 0) o (min (length buf) (z - o)) ++ drop (min (length buf) (z - o)) buf) (size-alike B v w al s)
+        ∙ ap (λ (x : List ℕ). x ++ drop (min (length buf) (size w s - o)) buf)
+        (table-cong (λ p. getD a (number v s (p / B) * B + p % B) 0) (λ p. getD b (number w s (p / B) * B + p % B) 0) o (min (length buf) (size w s - o))
+        (λ p l u.
+        let c : Inside w (number w s (p / B)) = position B (omega (arith, size-ok .large)) b ok s p (omega arith) in
+        ap (λ (k : ℕ). getD a (k * B + p % B) 0) (number-alike B v w al s (p / B))
+        ∙ block-byte B a b (number w s (p / B)) (p % B) (in-block B (omega (arith, size-ok .large)) p) (same .rest (number w s (p / B)) (c .low))))
+
+    go : (x : Verdict) → check B b ≡ x → checkedFilled x buf (record { answer = transferView B v h o (length buf); buffer = cond (granted (transferView B v h o (length buf))) (readBuffer B v a (slotWith B v h) o buf) buf }) ≡ checkedFilled x buf (record { answer = transferView B w h o (length buf); buffer = cond (granted (transferView B w h o (length buf))) (readBuffer B w b (slotWith B w h) o buf) buf })
+    go consistent e = λ i.
+        record {
+          answer = ta i;
+          buffer = cond (granted (ta i)) ((ap (λ (s : ℕ). readBuffer B v a s o buf) (slot-with-alike B v w al h) ∙ same-bytes (check-means B size-ok b .0 e .sound) (slotWith B w h)) i) buf;
+        }
+    go (broken num p) e = refl
+
+pub ignored : (B : ℕ) → BlockSize B → (a b : List ℕ) → SameRead B a b → IgnoredLaw B a b
+unfolding openAnswer create remove read write listAnswer freeAnswer
+ignored B size-ok a b same =
+    record {
+      check-same = ch;
+      open-same = λ nm. ap₂ checked ch (open-alike B (view B a) (view B b) al nm);
+      create-same = λ nm z.
+          (outcome-answer (check B a) a _ (createView B (view B a) nm z) ∙ ap₂ checked ch (create-alike B (view B a) (view B b) al nm z) ∙ sym (outcome-answer (check B b) b _ (createView B (view B b) nm z)));
+      remove-same = λ nm.
+          (outcome-answer (check B a) a _ (removeView B (view B a) nm) ∙ ap₂ checked ch (remove-alike B (view B a) (view B b) al nm) ∙ sym (outcome-answer (check B b) b _ (removeView B (view B b) nm)));
+      read-same = λ h o buf. read-alike B size-ok a b same al ch h o buf;
+      write-same = λ h o buf.
+          (outcome-answer (check B a) a _ (transferView B (view B a) h o (length buf)) ∙ ap₂ checked ch (transfer-alike B (view B a) (view B b) al h o (length buf)) ∙ sym (outcome-answer (check B b) b _ (transferView B (view B b) h o (length buf))));
+      list-same = λ s. ap₂ checked ch (list-alike B (view B a) (view B b) al s);
+      free-same = ap₂ checked ch (ap (λ (x : ℕ). value (B * x)) (room-alike B (view B a) (view B b) al));
+    }
+  where
+    al : Alike B (view B a) (view B b)
+    al = alike B size-ok a b same
+
+    ch : check B a ≡ check B b
+    ch = check-of B a b (same .long) (check-alike B (view B a) (view B b) al)

@@ -1,0 +1,188 @@
+//! Writes test cases with their answers into one packed file for an outside runner.
+//!
+//! ```text
+//! pack tfs   OUT [--seed S] [--cases N] [--large]
+//! pack romfs OUT [--seed S] [--cases N]
+//! ```
+//!
+//! The same arguments give the same file. Defaults are seed 1 and 300 cases; `--large` puts
+//! some cases on a volume of 4096 blocks, 2 MiB each, at the end.
+//!
+//! # The packed file
+//!
+//! A *number* is four bytes and a *hash* eight, both big-endian. *Bytes* are a number, which
+//! is their length, and then so many bytes. The file is a number, which is the count of cases,
+//! and then the cases one after another with nothing between or behind them. Each case has the
+//! same parts in the same order, and the parts that its kind has no use for are 0 or empty:
+//!
+//! | Part | Form | Meaning |
+//! |---|---|---|
+//! | kind | one byte | the request, see below |
+//! | first | number | handle, size, slot, directory or header |
+//! | second | number | offset |
+//! | name | bytes | name given to the request |
+//! | buffer | bytes | buffer as it is before the request |
+//! | image | bytes | image as it is before the request |
+//! | refusal | number | number of the refusal, 0 if granted |
+//! | place | number | place of the refusal, 0 if granted |
+//! | values | count as a number, then so many numbers | result, no values if refused |
+//! | text | bytes | name or content of the result, empty if refused |
+//! | after | hash | FNV-1a, 64 bits, of the image and then the buffer after the request |
+//!
+//! The hash stands in every case. A refused request leaves image and buffer as they were, and
+//! so do the kinds marked with a dash.
+//!
+//! | Kind | Request | Uses | Values, text if granted | Changes |
+//! |---|---|---|---|---|
+//! | 1 | TFS check | | | - |
+//! | 2 | TFS format | name | | image |
+//! | 3 | TFS open | name | inode number | - |
+//! | 4 | TFS create | first = size, name | inode number | image |
+//! | 5 | TFS remove | name | | image |
+//! | 6 | TFS read | first = handle, second = offset, buffer | count | buffer |
+//! | 7 | TFS write | first = handle, second = offset, buffer | count | image |
+//! | 8 | TFS list | first = slot | 0 for a free slot; else 1, inode number, size, and text = name | - |
+//! | 9 | TFS free bytes | | free bytes | - |
+//! | 17 | romfs check | | | - |
+//! | 18 | romfs find | first = directory, name | offset of the header | - |
+//! | 19 | romfs entry | first = header | type, executable (0 or 1), spec.info, size, next, name length | - |
+//! | 20 | romfs content length | first = header | length | - |
+//! | 21 | romfs content | first = header | length, and text = content; both 0 and empty where it is refused, never a refusal | - |
+
+#![forbid(unsafe_code)]
+
+use std::env;
+use std::fs;
+use std::process::ExitCode;
+
+use reference::cases::{romfs_cases, tfs_cases, Case};
+
+const USAGE: &str = "usage: pack tfs|romfs OUT [--seed S] [--cases N] [--large]";
+
+struct Options {
+    system: String,
+    out: String,
+    seed: u64,
+    cases: usize,
+    large: bool,
+}
+
+fn parse(mut words: impl Iterator<Item = String>) -> Option<Options> {
+    let (system, out) = (words.next()?, words.next()?);
+    let mut options = Options {
+        system,
+        out,
+        seed: 1,
+        cases: 300,
+        large: false,
+    };
+    while let Some(word) = words.next() {
+        match &word[..] {
+            "--seed" => options.seed = words.next()?.parse().ok()?,
+            "--cases" => options.cases = words.next()?.parse().ok()?,
+            "--large" => options.large = true,
+            _ => return None,
+        }
+    }
+    Some(options)
+}
+
+fn main() -> ExitCode {
+    let Some(options) = parse(env::args().skip(1)) else {
+        eprintln!("{USAGE}");
+        return ExitCode::from(2);
+    };
+    let cases = match &options.system[..] {
+        "tfs" => tfs_cases(options.seed, options.cases, options.large),
+        "romfs" => romfs_cases(options.seed, options.cases),
+        _ => {
+            eprintln!("{USAGE}");
+            return ExitCode::from(2);
+        }
+    };
+    let packed = pack(&cases);
+    if let Err(error) = fs::write(&options.out, &packed) {
+        eprintln!("{}: {error}", options.out);
+        return ExitCode::FAILURE;
+    }
+    println!("{} cases, {} bytes", cases.len(), packed.len());
+    ExitCode::SUCCESS
+}
+
+fn pack(cases: &[Case]) -> Vec<u8> {
+    let mut out = Vec::new();
+    put_number(&mut out, cases.len() as u32);
+    for case in cases {
+        put_case(&mut out, case);
+    }
+    out
+}
+
+fn put_case(out: &mut Vec<u8>, case: &Case) {
+    let Case {
+        kind,
+        arguments,
+        image,
+        answer,
+    } = case;
+    out.push(*kind as u8);
+    put_number(out, arguments.first);
+    put_number(out, arguments.second);
+    put_bytes(out, &arguments.name);
+    put_bytes(out, &arguments.buffer);
+    put_bytes(out, image);
+    put_number(out, answer.number);
+    put_number(out, answer.place);
+    put_number(out, answer.values.len() as u32);
+    for value in &answer.values {
+        put_number(out, *value);
+    }
+    put_bytes(out, &answer.text);
+    out.extend_from_slice(&answer.hash.to_be_bytes());
+}
+
+fn put_number(out: &mut Vec<u8>, number: u32) {
+    out.extend_from_slice(&number.to_be_bytes());
+}
+
+fn put_bytes(out: &mut Vec<u8>, bytes: &[u8]) {
+    put_number(out, bytes.len() as u32);
+    out.extend_from_slice(bytes);
+}
+
+#[cfg(test)]
+mod tests {
+    use super::*;
+
+    #[test]
+    fn a_case_has_the_written_form() {
+        use reference::cases::{Arguments, Kind};
+        let arguments = Arguments {
+            first: 7,
+            name: b"n".to_vec(),
+            ..Arguments::default()
+        };
+        let packed = pack(&[Case::new(Kind::TfsList, arguments, &[0xAB])]);
+        let mut expected = vec![0, 0, 0, 1, 8, 0, 0, 0, 7, 0, 0, 0, 0];
+        expected.extend([0, 0, 0, 1, b'n', 0, 0, 0, 0, 0, 0, 0, 1, 0xAB]);
+        expected.extend([0, 0, 0, 1, 0, 0, 0, 0, 0, 0, 0, 0, 0, 0, 0, 0]);
+        let hash = (0xCBF2_9CE4_8422_2325u64 ^ 0xAB).wrapping_mul(0x0100_0000_01B3);
+        expected.extend(hash.to_be_bytes());
+        assert_eq!(packed, expected);
+    }
+
+    #[test]
+    fn options_have_defaults_and_are_checked() {
+        let words = |text: &str| {
+            text.split(' ')
+                .map(str::to_owned)
+                .collect::<Vec<_>>()
+                .into_iter()
+        };
+        let options = parse(words("tfs out --cases 5")).unwrap();
+        assert_eq!((options.seed, options.cases, options.large), (1, 5, false));
+        assert!(parse(words("tfs")).is_none());
+        assert!(parse(words("tfs out --seed x")).is_none());
+        assert!(parse(words("tfs out --other")).is_none());
+    }
+}

@@ -1,0 +1,13 @@
+//! Makers of images, sound and damaged, that give the same bytes for the same seed.
+
+mod random;
+mod rom;
+mod rom_faults;
+mod volume;
+mod volume_faults;
+
+pub use random::Random;
+pub use rom::{rom, Placed, Rom, RomPlan};
+pub use rom_faults::{damage_rom, damage_rom_twice, scramble_rom};
+pub use volume::{any_volume, volume, MadeFile, Shape, Volume};
+pub use volume_faults::{damage_volume, damage_volume_twice, scramble_volume};

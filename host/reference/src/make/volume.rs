@@ -1,0 +1,280 @@
+//! Consistent TFS volumes.
+
+use super::Random;
+use crate::tfs::{self, BLOCK_SIZE, LARGEST_FILE, MAGIC, MOST_BLOCKS, SLOTS};
+
+/// A file of a made volume.
+#[derive(Clone, Debug, PartialEq, Eq)]
+pub struct MadeFile {
+    /// The slot of the directory that holds the file.
+    pub slot: usize,
+    /// The name without the zeros behind it.
+    pub name: Vec<u8>,
+    /// The inode number.
+    pub inode: u32,
+    /// The size in bytes.
+    pub size: u32,
+    /// The numbers of the content blocks in order.
+    pub blocks: Vec<u32>,
+}
+
+/// A made volume and what stands in it.
+#[derive(Clone, Debug)]
+pub struct Volume {
+    /// The bytes of the image.
+    pub image: Vec<u8>,
+    /// The number of blocks that count.
+    pub blocks: usize,
+    /// The files in the order of their slots.
+    pub files: Vec<MadeFile>,
+}
+
+/// What a volume is to be filled with.
+#[derive(Clone, Copy, Debug, PartialEq, Eq)]
+pub enum Shape {
+    /// No files.
+    Empty,
+    /// Some files in scattered slots and blocks, with room left.
+    Scattered,
+    /// Files in scattered blocks until no block is left.
+    Full,
+    /// A file in every slot, as far as there are blocks.
+    Crowded,
+    /// A file of the largest size, as far as there are blocks, and some others.
+    Largest,
+    /// What a formatted volume has become by creates, removes and writes.
+    Lived,
+}
+
+/// Makes a consistent volume of a shape with a number of blocks from 3 on.
+pub fn volume(random: &mut Random, shape: Shape, blocks: usize) -> Volume {
+    let blocks = blocks.clamp(3, MOST_BLOCKS);
+    if shape == Shape::Lived {
+        return lived(random, blocks);
+    }
+    let files = plan(random, shape, blocks);
+    let mut image = canvas(random, blocks);
+    draw(random, &mut image, blocks, &files);
+    Volume {
+        image,
+        blocks,
+        files,
+    }
+}
+
+/// Makes a consistent volume of any shape, mostly with few blocks and at most `most`.
+pub fn any_volume(random: &mut Random, most: usize) -> Volume {
+    let shapes = [
+        Shape::Scattered,
+        Shape::Lived,
+        Shape::Full,
+        Shape::Scattered,
+        Shape::Crowded,
+        Shape::Lived,
+        Shape::Empty,
+    ];
+    let shape = random.pick(&shapes);
+    let most = most.clamp(3, MOST_BLOCKS);
+    let usual = match random.below(40) {
+        0 => most,
+        1..=2 => random.between(3, most),
+        3..=9 => random.between(24, 68),
+        10..=14 => random.between(3, 4),
+        _ => random.between(3, 24),
+    };
+    if most >= 131 && random.one_in(50) {
+        let blocks = random.between(131, most.min(160));
+        return volume(random, Shape::Largest, blocks);
+    }
+    volume(random, shape, usual.min(most))
+}
+
+/// Bytes of a length that gives so many blocks, filled in one of several ways.
+fn canvas(random: &mut Random, blocks: usize) -> Vec<u8> {
+    let behind = if blocks == MOST_BLOCKS {
+        random.pick(&[0, 1, 511, 512, 1000, 2048])
+    } else {
+        random.pick(&[0, 0, 0, 1, 17, 255, 511])
+    };
+    let length = blocks * BLOCK_SIZE + behind;
+    match random.below(6) {
+        0 => vec![0; length],
+        1 => vec![0xFF; length],
+        _ => random.bytes(length),
+    }
+}
+
+fn plan(random: &mut Random, shape: Shape, blocks: usize) -> Vec<MadeFile> {
+    let mut free: Vec<u32> = (3..blocks as u32).collect();
+    if !random.one_in(4) {
+        random.shuffle(&mut free);
+    }
+    let mut slots: Vec<usize> = (0..SLOTS).collect();
+    if !random.one_in(3) {
+        random.shuffle(&mut slots);
+    }
+    let count = match shape {
+        Shape::Empty => 0,
+        Shape::Crowded => SLOTS,
+        Shape::Full => random.between(1, 8),
+        _ => random.between(1, 5),
+    };
+    let mut files: Vec<MadeFile> = Vec::new();
+    for (index, &slot) in slots.iter().take(count).enumerate() {
+        let Some(room) = free.len().checked_sub(1) else {
+            break;
+        };
+        let share = match shape {
+            Shape::Crowded => room.saturating_sub(count - 1 - index).min(2),
+            Shape::Full if index + 1 < count => room.saturating_sub(room.min(2)),
+            Shape::Scattered => room.min(30),
+            _ => room,
+        };
+        let most = (share * BLOCK_SIZE).min(LARGEST_FILE as usize);
+        let size = match shape {
+            Shape::Largest if index == 0 => most,
+            Shape::Full if index + 1 == count => most - random.below(most.min(BLOCK_SIZE) + 1) / 2,
+            _ => some_size(random, most),
+        };
+        let inode = free.pop().unwrap_or_default();
+        let content = free.split_off(free.len() - size.div_ceil(BLOCK_SIZE));
+        let name = fresh_name(random, &files);
+        files.push(MadeFile {
+            slot,
+            name,
+            inode,
+            size: size as u32,
+            blocks: content,
+        });
+    }
+    files.sort_by_key(|file| file.slot);
+    files
+}
+
+/// A size up to `most`, often one at the edge of a block.
+fn some_size(random: &mut Random, most: usize) -> usize {
+    let size = match random.below(8) {
+        0 => 0,
+        1 => BLOCK_SIZE,
+        2 => BLOCK_SIZE * random.below(most / BLOCK_SIZE + 1),
+        3 => random.pick(&[1, 511, 513, 1000, 1024, 1025]),
+        4 => random.below(most + 1),
+        _ => random.below(most.min(3 * BLOCK_SIZE) + 1),
+    };
+    size.min(most)
+}
+
+fn fresh_name(random: &mut Random, files: &[MadeFile]) -> Vec<u8> {
+    loop {
+        let length = if random.one_in(3) {
+            15
+        } else {
+            random.between(1, 15)
+        };
+        let name = random.name(length);
+        if files.iter().all(|file| file.name != name) {
+            return name;
+        }
+    }
+}
+
+/// Writes a volume over noise and leaves the noise wherever the rules ignore it.
+fn draw(random: &mut Random, image: &mut [u8], blocks: usize, files: &[MadeFile]) {
+    image[..4].copy_from_slice(&MAGIC.to_be_bytes());
+    let end = random.between(0, 15);
+    let label = random.name(end);
+    image[4..4 + end].copy_from_slice(&label);
+    image[4 + end] = 0;
+
+    let owned = files
+        .iter()
+        .flat_map(|file| std::iter::once(&file.inode).chain(&file.blocks));
+    let map = &mut image[BLOCK_SIZE..2 * BLOCK_SIZE];
+    for block in 0..blocks {
+        map[map_byte(block)] &= !(1 << (block % 8));
+    }
+    for block in [0, 1, 2].iter().chain(owned) {
+        map[map_byte(*block as usize)] |= 1 << (block % 8);
+    }
+
+    let directory = 2 * BLOCK_SIZE;
+    image[directory..directory + 20 * SLOTS].fill(0);
+    for file in files {
+        let slot = directory + 20 * file.slot;
+        image[slot..slot + 4].copy_from_slice(&file.inode.to_be_bytes());
+        image[slot + 4..slot + 4 + file.name.len()].copy_from_slice(&file.name);
+        let inode = &mut image[file.inode as usize * BLOCK_SIZE..][..BLOCK_SIZE];
+        inode.fill(0);
+        inode[..4].copy_from_slice(&file.size.to_be_bytes());
+        for (index, number) in file.blocks.iter().enumerate() {
+            inode[4 + 4 * index..8 + 4 * index].copy_from_slice(&number.to_be_bytes());
+        }
+    }
+}
+
+/// The byte of the map that holds the bit of a block.
+pub(super) fn map_byte(block: usize) -> usize {
+    4 * (block / 32) + 3 - block % 32 / 8
+}
+
+/// A volume with a history of requests.
+fn lived(random: &mut Random, blocks: usize) -> Volume {
+    let mut image = canvas(random, blocks);
+    let length = random.between(0, 15);
+    let label = random.name(length);
+    let formatted = tfs::format(&mut image, &label);
+    debug_assert_eq!(formatted, Ok(()));
+    let mut names: Vec<Vec<u8>> = Vec::new();
+    for _ in 0..random.between(2, 40) {
+        if names.is_empty() || random.below(5) < 2 {
+            let length = random.between(1, 15);
+            let name = random.name(length);
+            let size = some_size(random, (blocks - 3) * BLOCK_SIZE / 2);
+            if tfs::create(&mut image, &name, size as u32).is_ok() {
+                names.push(name);
+            }
+        } else if random.one_in(2) {
+            let gone = names.swap_remove(random.below(names.len()));
+            let removed = tfs::remove(&mut image, &gone);
+            debug_assert_eq!(removed, Ok(()));
+        } else {
+            let name = &names[random.below(names.len())];
+            let length = random.below(1500);
+            let bytes = random.bytes(length);
+            let offset = random.below(1500) as u32;
+            if let Ok(handle) = tfs::open(&image, name) {
+                let _ = tfs::write(&mut image, handle, offset, &bytes);
+            }
+        }
+    }
+    random.fill(&mut image[2 * BLOCK_SIZE + 20 * SLOTS..3 * BLOCK_SIZE]);
+    let files = survey(&image);
+    Volume {
+        image,
+        blocks,
+        files,
+    }
+}
+
+/// The files of a consistent image.
+fn survey(image: &[u8]) -> Vec<MadeFile> {
+    let number =
+        |at: usize| u32::from_be_bytes([image[at], image[at + 1], image[at + 2], image[at + 3]]);
+    (0..SLOTS)
+        .filter_map(|slot| match tfs::list(image, slot as u32) {
+            Ok(tfs::Listing::Used { name, inode, size }) => {
+                let first = inode as usize * BLOCK_SIZE + 4;
+                let count = (size as usize).div_ceil(BLOCK_SIZE);
+                let blocks = (0..count).map(|index| number(first + 4 * index)).collect();
+                Some(MadeFile {
+                    slot,
+                    name: name.to_vec(),
+                    inode,
+                    size,
+                    blocks,
+                })
+            }
+            _ => None,
+        })
+        .collect()
+}

@@ -1,0 +1,14 @@
+//! Requests on a TFS volume of 512-byte blocks that lies in a borrowed image.
+//!
+//! Every request but [`format()`] checks the whole volume first. A refused request changes
+//! neither the image nor a buffer.
+
+mod directory;
+mod layout;
+mod transfer;
+mod volume;
+
+pub use directory::{create, format, free_bytes, list, open, remove, Listing};
+pub use layout::{BLOCK_SIZE, LARGEST_FILE, MAGIC, MOST_BLOCKS, SLOTS};
+pub use transfer::{read, write};
+pub use volume::check;

@@ -1,0 +1,295 @@
+//! The numbers and the slips that the rules name, for TFS.
+
+use reference::tfs::{check, create, format, free_bytes, list, open, read, remove, write, Listing};
+use reference::Refusal;
+
+fn plain<T>(number: u32) -> Result<T, Refusal> {
+    Err(Refusal::plain(number))
+}
+
+fn formatted(length: usize) -> Vec<u8> {
+    let mut image = vec![0x5A; length];
+    format(&mut image, b"PUMP").unwrap();
+    image
+}
+
+fn blocks(count: usize) -> Vec<u8> {
+    formatted(512 * count)
+}
+
+fn pump() -> Vec<u8> {
+    let mut image = formatted(65_536);
+    assert_eq!(create(&mut image, b"TIMING", 1_000), Ok(3));
+    image
+}
+
+#[test]
+fn format_of_65536_bytes() {
+    let image = formatted(65_536);
+    assert_eq!(image[..8], [0, 0, 0x0E, 0xA1, 0x50, 0x55, 0x4D, 0x50]);
+    assert!(image[8..512].iter().all(|&byte| byte == 0));
+    assert_eq!(image[512..516], [0, 0, 0, 7]);
+    assert!(image[516..1536].iter().all(|&byte| byte == 0));
+    assert!(image[1536..].iter().all(|&byte| byte == 0x5A));
+    assert_eq!(free_bytes(&image), Ok(64_000));
+}
+
+#[test]
+fn create_of_timing() {
+    let image = pump();
+    assert_eq!(image[512..516], [0, 0, 0, 0x3F]);
+    assert!(image[516..1024].iter().all(|&byte| byte == 0));
+    assert_eq!(
+        image[1024..1034],
+        [0, 0, 0, 3, 0x54, 0x49, 0x4D, 0x49, 0x4E, 0x47]
+    );
+    assert!(image[1034..1536].iter().all(|&byte| byte == 0));
+    assert_eq!(image[1536..1548], [0, 0, 3, 0xE8, 0, 0, 0, 4, 0, 0, 0, 5]);
+    assert!(image[1548..3072].iter().all(|&byte| byte == 0));
+    assert!(image[3072..].iter().all(|&byte| byte == 0x5A));
+    assert_eq!(free_bytes(&image), Ok(62_464));
+    assert_eq!(open(&image, b"TIMING"), Ok(3));
+    let listed = Listing::Used {
+        name: b"TIMING",
+        inode: 3,
+        size: 1_000,
+    };
+    assert_eq!(list(&image, 0), Ok(listed));
+    assert_eq!(list(&image, 1), Ok(Listing::Free));
+}
+
+#[test]
+fn counts_at_the_end_of_a_file() {
+    let mut image = pump();
+    let mut buffer = [7; 200];
+    assert_eq!(read(&image, 3, 900, &mut buffer), Ok(100));
+    assert_eq!(
+        (buffer[..100].to_vec(), buffer[100..].to_vec()),
+        (vec![0; 100], vec![7; 100])
+    );
+    assert_eq!(read(&image, 3, 1_000, &mut buffer), Ok(0));
+    assert_eq!(read(&image, 3, 1_001, &mut buffer), plain(15));
+    assert_eq!(read(&image, 3, 1_001, &mut []), plain(15));
+    assert_eq!(read(&image, 3, u32::MAX, &mut buffer), plain(15));
+    assert_eq!(read(&image, 3, 5, &mut []), Ok(0));
+    let before = image.clone();
+    assert_eq!(write(&mut image, 3, 990, &[9; 30]), Ok(10));
+    let mut expected = before;
+    expected[5 * 512 + 478..5 * 512 + 488].fill(9);
+    assert_eq!(image, expected);
+    assert_eq!(write(&mut image, 3, 1_001, &[1]), plain(15));
+    assert_eq!(image, expected);
+}
+
+#[test]
+fn bits_31_and_32_of_the_map() {
+    let mut image = blocks(40);
+    assert_eq!(create(&mut image, b"a", 28 * 512), Ok(3));
+    assert_eq!(image[512..520], [0xFF, 0xFF, 0xFF, 0xFF, 0, 0, 0, 0]);
+    assert_eq!(create(&mut image, b"b", 0), Ok(32));
+    assert_eq!(image[512..520], [0xFF, 0xFF, 0xFF, 0xFF, 0, 0, 0, 1]);
+    remove(&mut image, b"b").unwrap();
+    image[519] ^= 1;
+    assert_eq!(check(&image), Err(Refusal::at(7, 32)));
+    image[519] ^= 1;
+    image[512] ^= 0x80;
+    assert_eq!(check(&image), Err(Refusal::at(7, 31)));
+}
+
+#[test]
+fn largest_file_fills_131_blocks() {
+    let mut image = blocks(131);
+    assert_eq!(create(&mut image, b"a", 65_025), plain(9));
+    assert_eq!(create(&mut image, b"a", u32::MAX), plain(9));
+    assert_eq!(create(&mut image, b"a", 65_024), Ok(3));
+    assert_eq!(free_bytes(&image), Ok(0));
+    let mut image = blocks(130);
+    let before = image.clone();
+    assert_eq!(create(&mut image, b"a", 65_024), plain(12));
+    assert_eq!(image, before);
+    assert_eq!(create(&mut image, b"a", 65_024 - 512), Ok(3));
+}
+
+#[test]
+fn lengths_at_the_edges() {
+    let mut short = vec![0; 1_535];
+    assert_eq!(check(&short), plain(1));
+    assert_eq!(format(&mut short, b""), plain(1));
+    assert_eq!(format(&mut short, &[0]), plain(1));
+    assert_eq!(check(&[]), plain(1));
+    let mut least = formatted(1_536);
+    assert_eq!(free_bytes(&least), Ok(0));
+    assert_eq!(create(&mut least, b"a", 0), plain(12));
+    for length in [2_097_152, 2_097_153, 2_097_152 + 512, 2_097_152 + 5_000] {
+        let image = formatted(length);
+        assert_eq!(free_bytes(&image), Ok(512 * 4_093));
+        assert!(image[1536..].iter().all(|&byte| byte == 0x5A));
+    }
+    assert_eq!(free_bytes(&formatted(2_097_151)), Ok(512 * 4_092));
+}
+
+#[test]
+fn a_full_directory_with_and_without_room() {
+    for count in [28, 40] {
+        let mut image = blocks(count);
+        for letter in b'a'..b'a' + 25 {
+            create(&mut image, &[letter], 0).unwrap();
+        }
+        assert_eq!(create(&mut image, b"c", 0), plain(10));
+        assert_eq!(create(&mut image, b"z", 0), plain(11));
+        assert_eq!(create(&mut image, b"z", 65_024), plain(11));
+        assert_eq!(create(&mut image, b"c", 65_025), plain(9));
+        assert_eq!(create(&mut image, b"", 65_025), plain(8));
+    }
+}
+
+#[test]
+fn names_that_are_refused() {
+    let mut image = pump();
+    let names: [&[u8]; 6] = [b"", b"\0", b"a\0", b"TIMING\0", &[b'a'; 16], &[b'a'; 4_000]];
+    for name in names {
+        assert_eq!(open(&image, name), plain(8));
+        assert_eq!(create(&mut image, name, 0), plain(8));
+        assert_eq!(remove(&mut image, name), plain(8));
+        let allowed = if name.is_empty() { Ok(()) } else { plain(8) };
+        assert_eq!(format(&mut image.clone(), name), allowed);
+    }
+    assert_eq!(open(&image, b"TIMIN"), plain(13));
+    assert_eq!(open(&image, b"TIMINGS"), plain(13));
+    assert_eq!(remove(&mut image, b"timing"), plain(13));
+    assert_eq!(create(&mut image, &[b'a'; 15], 0), Ok(6));
+}
+
+#[test]
+fn only_an_inode_in_a_used_slot_is_a_handle() {
+    let mut image = pump();
+    let before = image.clone();
+    for handle in [0, 1, 2, 4, 5, 6, 127, 128, 129, 0x1_0003, u32::MAX] {
+        let mut buffer = [7; 4];
+        assert_eq!(read(&image, handle, 0, &mut buffer), plain(14));
+        assert_eq!(read(&image, handle, u32::MAX, &mut buffer), plain(14));
+        assert_eq!(buffer, [7; 4]);
+        assert_eq!(write(&mut image, handle, 0, &[1]), plain(14));
+    }
+    assert_eq!(image, before);
+    remove(&mut image, b"TIMING").unwrap();
+    assert_eq!(read(&image, 3, 0, &mut []), plain(14));
+    assert_eq!(create(&mut image, b"OTHER", 4), Ok(3));
+    assert_eq!(read(&image, 3, 0, &mut [0; 9]), Ok(4));
+    for slot in [25, 26, 256, 0x1_0000, u32::MAX] {
+        assert_eq!(list(&image, slot), plain(14));
+    }
+}
+
+#[test]
+fn room_is_known_before_a_name_is_entered() {
+    let mut image = blocks(6);
+    let before = image.clone();
+    assert_eq!(create(&mut image, b"a", 1_025), plain(12));
+    assert_eq!(image, before);
+}
+
+#[test]
+fn new_content_is_wholly_zero() {
+    let mut image = blocks(8);
+    create(&mut image, b"a", 10).unwrap();
+    assert!(image[4 * 512..5 * 512].iter().all(|&byte| byte == 0));
+    assert!(image[5 * 512..].iter().all(|&byte| byte == 0x5A));
+}
+
+#[test]
+fn map_bits_past_the_volume_are_no_room() {
+    let mut image = blocks(5);
+    assert_eq!(free_bytes(&image), Ok(1_024));
+    assert_eq!(create(&mut image, b"a", 1_024), plain(12));
+    image[512..1024].fill(0xFF);
+    image[515] = 7;
+    image[514] = 0;
+    image[515] |= 0b1110_0000;
+    assert_eq!(check(&image), Ok(()));
+    assert_eq!(free_bytes(&image), Ok(1_024));
+    create(&mut image, b"a", 512).unwrap();
+    assert_eq!(image[512..516], [0xFF, 0xFF, 0, 0xFF]);
+    remove(&mut image, b"a").unwrap();
+    assert_eq!(image[512..516], [0xFF, 0xFF, 0, 0xE7]);
+}
+
+#[test]
+fn ignored_bytes_are_kept_but_by_format() {
+    let mut image = blocks(9);
+    image[20..512].fill(0xEE);
+    image[1524..1536].fill(0xEE);
+    image[10] = b'x';
+    create(&mut image, b"a", 600).unwrap();
+    remove(&mut image, b"a").unwrap();
+    assert!(image[20..512]
+        .iter()
+        .chain(&image[1524..1536])
+        .all(|&byte| byte == 0xEE));
+    assert_eq!(image[10], b'x');
+    format(&mut image, b"").unwrap();
+    assert!(image[4..512]
+        .iter()
+        .chain(&image[516..1536])
+        .all(|&byte| byte == 0));
+}
+
+#[test]
+fn remove_touches_only_map_and_slot() {
+    let mut image = pump();
+    write(&mut image, 3, 0, &[0x33; 1_000]).unwrap();
+    let mut expected = image.clone();
+    expected[515] = 7;
+    expected[1024..1044].fill(0);
+    remove(&mut image, b"TIMING").unwrap();
+    assert_eq!(image, expected);
+}
+
+#[test]
+fn faults_come_in_the_order_of_the_rules() {
+    let mut image = blocks(20);
+    create(&mut image, b"a", 600).unwrap();
+    create(&mut image, b"b", 600).unwrap();
+    create(&mut image, b"c", 600).unwrap();
+    assert_eq!(check(&image), Ok(()));
+    image[513] ^= 0x10; // block 20, past the volume
+    assert_eq!(check(&image), Ok(()));
+    image[515] ^= 2;
+    assert_eq!(check(&image), Err(Refusal::at(7, 1)));
+    image[9 * 512 + 8..][..4].copy_from_slice(&[0, 0, 0, 8]);
+    assert_eq!(check(&image), Err(Refusal::at(6, 8)));
+    image[9 * 512 + 4..][..4].copy_from_slice(&[0, 0, 0, 4]);
+    assert_eq!(check(&image), Err(Refusal::at(6, 4)));
+    image[6 * 512 + 12] = 1;
+    assert_eq!(check(&image), Err(Refusal::at(5, 1)));
+    image[3 * 512] = 1;
+    assert_eq!(check(&image), Err(Refusal::at(5, 0)));
+    image[1024 + 20 * 24 + 19] = 1;
+    assert_eq!(check(&image), Err(Refusal::at(4, 24)));
+    image[1024 + 20 * 2 + 4] = b'a';
+    assert_eq!(check(&image), Err(Refusal::at(4, 2)));
+    image[4..20].fill(b'n');
+    assert_eq!(check(&image), plain(3));
+    image[0] = 1;
+    assert_eq!(check(&image), plain(2));
+    assert_eq!(open(&image, b""), plain(2));
+    assert_eq!(list(&image, 99), plain(2));
+    assert_eq!(free_bytes(&image), plain(2));
+    assert_eq!(create(&mut image, b"", u32::MAX), plain(2));
+    assert_eq!(remove(&mut image, b""), plain(2));
+    assert_eq!(read(&image, 0, 0, &mut []), plain(2));
+    assert_eq!(write(&mut image, 0, 0, &[]), plain(2));
+}
+
+#[test]
+fn a_shared_inode_doubles_all_its_blocks() {
+    let mut image = blocks(20);
+    create(&mut image, b"a", 600).unwrap();
+    create(&mut image, b"b", 600).unwrap();
+    image[1024 + 20 + 3] = 3;
+    assert_eq!(check(&image), Err(Refusal::at(6, 3)));
+    image[1024 + 3] = 6;
+    image[1024 + 20 + 3] = 6;
+    image[6 * 512 + 7] = 4;
+    assert_eq!(check(&image), Err(Refusal::at(6, 4)));
+}
