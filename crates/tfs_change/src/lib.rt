@@ -8,6 +8,7 @@ ghost use Rattle.tfs_rules.specs.Requests as rules;
 ghost use Rattle.tfs_answers.specs.Told.{answerTold, AnswerFits, doneTold, DoneFits};
 use tfs_answers::Answer;
 use tfs_answers::Done;
+use tfs_check::Checked;
 use tfs_check::Fault;
 use tfs_dir::find::find_free;
 use tfs_dir::find::find_name;
@@ -37,7 +38,7 @@ pub fn format(image: &mut [u8], label: &[u8]) -> Done
 }
 
 // Creates on a consistent volume.
-pub fn create_sound(image: &mut [u8], name: &[u8], size: u32) -> Answer
+fn create_sound(image: &mut [u8], name: &[u8], size: u32) -> Answer
     requires { ⌜ check 512 (now image) ≡ consistent ⌝ }
     ensures { λ r. ⌜ (answerTold r ≡ createView 512 (view 512 (now (image .entry))) (now (name .entry)) size) × (now (image .exit) ≡ cond (granted (createView 512 (view 512 (now (image .entry))) (now (name .entry)) size)) (storeAll 512 (now (image .entry)) (createStores 512 (view 512 (now (image .entry))) (now (name .entry)) size)) (now (image .entry))) × AnswerFits r ⌝ }
 {
@@ -65,8 +66,18 @@ pub fn create_sound(image: &mut [u8], name: &[u8], size: u32) -> Answer
     Answer::Granted(list[0])
 }
 
+// A file of this name and size, all zeros.
+pub fn create(image: &mut [u8], name: &[u8], size: u32) -> Answer
+    ensures { λ r. ⌜ (answerTold r ≡ rules.create 512 (now (image .entry)) (now (name .entry)) size .answer) × (now (image .exit) ≡ rules.create 512 (now (image .entry)) (now (name .entry)) size .image) × AnswerFits r ⌝ }
+{
+    match tfs_check::check(image) {
+        Checked::Refused(f) => Answer::Inconsistent(f),
+        Checked::Consistent => create_sound(image, name, size),
+    }
+}
+
 // Removes on a consistent volume.
-pub fn remove_sound(image: &mut [u8], name: &[u8]) -> Done
+fn remove_sound(image: &mut [u8], name: &[u8]) -> Done
     requires { ⌜ check 512 (now image) ≡ consistent ⌝ }
     ensures { λ r. ⌜ (doneTold r ≡ removeView 512 (view 512 (now (image .entry))) (now (name .entry))) × (now (image .exit) ≡ cond (granted (removeView 512 (view 512 (now (image .entry))) (now (name .entry)))) (storeAll 512 (now (image .entry)) (removeStores 512 (view 512 (now (image .entry))) (now (name .entry)))) (now (image .entry))) × DoneFits r ⌝ }
 {
@@ -84,3 +95,12 @@ pub fn remove_sound(image: &mut [u8], name: &[u8]) -> Done
     Done::Granted
 }
 
+// Removes the file of this name: its blocks are free, its slot is zero.
+pub fn remove(image: &mut [u8], name: &[u8]) -> Done
+    ensures { λ r. ⌜ (doneTold r ≡ rules.remove 512 (now (image .entry)) (now (name .entry)) .answer) × (now (image .exit) ≡ rules.remove 512 (now (image .entry)) (now (name .entry)) .image) × DoneFits r ⌝ }
+{
+    match tfs_check::check(image) {
+        Checked::Refused(f) => Done::Inconsistent(f),
+        Checked::Consistent => remove_sound(image, name),
+    }
+}

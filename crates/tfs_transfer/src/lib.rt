@@ -9,6 +9,7 @@ ghost use Rattle.tfs_rules.specs.Requests.{granted, transferView, readBuffer, w
 ghost use Rattle.tfs_rules.specs.Requests as rules;
 ghost use Rattle.tfs_answers.specs.Told.{answerTold, AnswerFits};
 use tfs_answers::Answer;
+use tfs_check::Checked;
 use tfs_dir::find::find_handle;
 use tfs_runs::read::read_runs;
 use tfs_runs::write::write_runs;
@@ -16,7 +17,7 @@ use tfs_steps::file::file_blocks;
 use tfs_steps::file::file_size;
 
 // The smaller of a buffer's length and what the file has from the offset on.
-pub fn count_of(len: usize, size: u32, offset: u32) -> usize
+fn count_of(len: usize, size: u32, offset: u32) -> usize
     requires { ⌜ offset ≤ size ⌝ }
     ensures { λ r. ⌜ r ≡ min len (size - offset) ⌝ }
 {
@@ -25,7 +26,7 @@ pub fn count_of(len: usize, size: u32, offset: u32) -> usize
 }
 
 // Reads on a consistent volume.
-pub fn read_sound(image: &[u8], handle: u32, offset: u32, buf: &mut [u8]) -> Answer
+fn read_sound(image: &[u8], handle: u32, offset: u32, buf: &mut [u8]) -> Answer
     requires { ⌜ check 512 (now image) ≡ consistent ⌝ }
     ensures { λ r. ⌜ (answerTold r ≡ transferView 512 (view 512 (now (image .entry))) handle offset (length (now (buf .entry)))) × (now (buf .exit) ≡ cond (granted (transferView 512 (view 512 (now (image .entry))) handle offset (length (now (buf .entry))))) (readBuffer 512 (view 512 (now (image .entry))) (now (image .entry)) (slotWith 512 (view 512 (now (image .entry))) handle) offset (now (buf .entry))) (now (buf .entry))) × AnswerFits r ⌝ }
 {
@@ -45,8 +46,18 @@ pub fn read_sound(image: &[u8], handle: u32, offset: u32, buf: &mut [u8]) -> Ans
     Answer::Granted(count as u32)
 }
 
+// Reads from the file's offset on into the buffer; the rest of the buffer stays.
+pub fn read(image: &[u8], handle: u32, offset: u32, buf: &mut [u8]) -> Answer
+    ensures { λ r. ⌜ (answerTold r ≡ rules.read 512 (now (image .entry)) handle offset (now (buf .entry)) .answer) × (now (buf .exit) ≡ rules.read 512 (now (image .entry)) handle offset (now (buf .entry)) .buffer) × AnswerFits r ⌝ }
+{
+    match tfs_check::check(image) {
+        Checked::Refused(f) => Answer::Inconsistent(f),
+        Checked::Consistent => read_sound(image, handle, offset, buf),
+    }
+}
+
 // Writes on a consistent volume.
-pub fn write_sound(image: &mut [u8], handle: u32, offset: u32, buf: &[u8]) -> Answer
+fn write_sound(image: &mut [u8], handle: u32, offset: u32, buf: &[u8]) -> Answer
     requires { ⌜ check 512 (now image) ≡ consistent ⌝ }
     ensures { λ r. ⌜ (answerTold r ≡ transferView 512 (view 512 (now (image .entry))) handle offset (length (now (buf .entry)))) × (now (image .exit) ≡ cond (granted (transferView 512 (view 512 (now (image .entry))) handle offset (length (now (buf .entry))))) (writeImage 512 (view 512 (now (image .entry))) (now (image .entry)) (slotWith 512 (view 512 (now (image .entry))) handle) offset (now (buf .entry))) (now (image .entry))) × AnswerFits r ⌝ }
 {
@@ -66,3 +77,12 @@ pub fn write_sound(image: &mut [u8], handle: u32, offset: u32, buf: &[u8]) -> An
     Answer::Granted(count as u32)
 }
 
+// Writes the buffer into the file from the offset on, as far as the file reaches.
+pub fn write(image: &mut [u8], handle: u32, offset: u32, buf: &[u8]) -> Answer
+    ensures { λ r. ⌜ (answerTold r ≡ rules.write 512 (now (image .entry)) handle offset (now (buf .entry)) .answer) × (now (image .exit) ≡ rules.write 512 (now (image .entry)) handle offset (now (buf .entry)) .image) × AnswerFits r ⌝ }
+{
+    match tfs_check::check(image) {
+        Checked::Refused(f) => Answer::Inconsistent(f),
+        Checked::Consistent => write_sound(image, handle, offset, buf),
+    }
+}
