@@ -1,0 +1,22 @@
+use mathlib.Core.Path.{_≡_, refl, sym, ap, _∙_}
+use denote.Ref.{now}
+use Rattle.romfs.specs.Told.{told, toldFault, toldFind, toldEntry, toldContent}
+use Rattle.romfs.proofs.Answers as answers
+use Rattle.romfs_rules.specs.Answers.{described}
+use Rattle.romfs_rules.specs.Check.{check}
+use borrow.Author.Needs.{needs}
+use Rattle.romfs.proofs.entry.Statement.{statement}
+use Rattle.romfs.proofs.entry.Tie as tie
+
+entry-at-requires : tie.Need-entry-at-requires
+entry-at-requires c κs = sym (ap told (sym (c .enum-told .given .1)) ∙ c .before .before .check .ensures)
+
+returns : tie.Need-returns
+returns c = let a = c .before .before .before .before .before .args in answers.entry-is (now (a .image)) (a .at) _ (answers.unsound (c .before .f .given .0 .0) (check (now (a .image))) (described (now (a .image)) (a .at)) (ap told (sym (c .before .f .given .1)) ∙ c .before .before .before .check .ensures))
+
+returns-2 : tie.Need-returns-2
+returns-2 c = let a = c .before .before .before .before .before .args in answers.entry-is (now (a .image)) (a .at) _ (answers.go-on (check (now (a .image))) (described (now (a .image)) (a .at)) (toldEntry (c .entry-at .result)) (ap told (sym (c .before .enum-told .given .1)) ∙ c .before .before .before .check .ensures) (c .entry-at .ensures))
+
+pub entry-spec : {M : Type 1} → statement M
+entry-spec =
+    tie.close (tie.spec (λ c κs. search needs) (λ c. search needs) (λ c. search needs) entry-at-requires returns returns-2)

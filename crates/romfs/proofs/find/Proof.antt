@@ -1,0 +1,22 @@
+use mathlib.Core.Path.{_≡_, refl, sym, ap, _∙_}
+use denote.Ref.{now}
+use Rattle.romfs.specs.Told.{told, toldFault, toldFind, toldEntry, toldContent}
+use Rattle.romfs.proofs.Answers as answers
+use Rattle.romfs_rules.specs.Answers.{found}
+use Rattle.romfs_rules.specs.Check.{check}
+use borrow.Author.Needs.{needs}
+use Rattle.romfs.proofs.find.Statement.{statement}
+use Rattle.romfs.proofs.find.Tie as tie
+
+find-in-requires : tie.Need-find-in-requires
+find-in-requires c κs = sym (ap told (sym (c .enum-told .given .1)) ∙ c .before .before .check .ensures)
+
+returns : tie.Need-returns
+returns c = let a = c .before .before .before .before .before .before .args in answers.find-is (now (a .image)) (now (a .name)) (a .dir) _ (answers.unsound (c .before .f .given .0 .0) (check (now (a .image))) (found (now (a .image)) (a .dir) (now (a .name))) (ap told (sym (c .before .f .given .1)) ∙ c .before .before .before .check .ensures))
+
+returns-2 : tie.Need-returns-2
+returns-2 c = let a = c .before .before .before .before .before .before .args in answers.find-is (now (a .image)) (now (a .name)) (a .dir) _ (answers.go-on (check (now (a .image))) (found (now (a .image)) (a .dir) (now (a .name))) (toldFind (c .find-in .result)) (ap told (sym (c .before .enum-told .given .1)) ∙ c .before .before .before .check .ensures) (c .find-in .ensures))
+
+pub find-spec : {M : Type 1} → statement M
+find-spec =
+    tie.close (tie.spec (λ c κs. search needs) (λ c. search needs) (λ c. search needs) find-in-requires returns returns-2)

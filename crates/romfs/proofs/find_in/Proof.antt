@@ -1,0 +1,48 @@
+use borrow.Author.Tests.{eq-eqb, ne-eqb, lt-ltb, le-ltb, le-leb, lt-leb, not-true, not-false}
+use mathlib.Core.Path.{_≡_, refl, sym, ap, _∙_}
+use native.Mathlib.Omega.{arith}
+use Rattle.romfs.proofs.Answers as answers
+use Rattle.romfs_rules.specs.Given.{first-info, dir-is, first-reached, content-in}
+use mathlib.Core.Path.{subst}
+use Rattle.romfs_rules.specs.Reached.{IsReached}
+use borrow.Author.Needs.{needs}
+use Rattle.romfs.proofs.find_in.Statement.{statement}
+use Rattle.romfs.proofs.find_in.Tie as tie
+
+full-size-requires : tie.Need-full-size-requires
+full-size-requires c κs = answers.long _ (c .before .before .pre)
+
+is-directory-requires : tie.Need-is-directory-requires
+is-directory-requires c κs = answers.walked-of _ _ (c .before .before .before .pre) (c .full-size .ensures .0) (c .full-size .ensures .1)
+
+returns : tie.Need-returns
+returns c = answers.found-31 _ _ _ (sym (c .before .is-directory .ensures) ∙ not-true _ (c .if1 .taken))
+
+first-of-requires : tie.Need-first-of-requires
+first-of-requires c κs = (answers.walked-of _ _ (c .before .before .before .before .before .pre) (c .before .before .full-size .ensures .0) (c .before .before .full-size .ensures .1), sym (c .before .is-directory .ensures) ∙ not-false _ (c .if1 .left))
+
+returns-2 : tie.Need-returns-2
+returns-2 c = answers.found-empty _ _ _ (sym (c .before .before .before .is-directory .ensures) ∙ not-false _ (c .before .before .if1 .left)) _ (c .before .first-of .ensures) (c .if2 .taken)
+
+match-from-requires : tie.Need-match-from-requires
+match-from-requires c κs = let e = c .before .first-of .ensures in (answers.walked-of _ _ (c .before .before .before .before .before .before .before .pre) (c .before .before .before .before .full-size .ensures .0) (c .before .before .before .before .full-size .ensures .1), subst (IsReached _) (sym e) (first-reached _ _ (c .before .before .before .before .before .before .before .pre) (sym (c .before .before .before .is-directory .ensures) ∙ not-false _ (c .before .before .if1 .left)) (λ z. c .if2 .left (e ∙ z))))
+
+returns-3 : tie.Need-returns-3
+returns-3 c = answers.found-30 _ _ _ (sym (c .before .before .before .before .before .is-directory .ensures) ∙ not-false _ (c .before .before .before .before .if1 .left)) _ _ _ (c .before .before .before .first-of .ensures) (c .before .before .if2 .left) (c .before .before .before .before .before .before .full-size .ensures .0) (c .before .match-from .ensures .0) (c .if3 .taken)
+
+returns-4 : tie.Need-returns-4
+returns-4 c = answers.found-at _ _ _ (sym (c .before .before .before .before .before .is-directory .ensures) ∙ not-false _ (c .before .before .before .before .if1 .left)) _ _ _ (c .before .before .before .first-of .ensures) (c .before .before .if2 .left) (c .before .before .before .before .before .before .full-size .ensures .0) (c .before .match-from .ensures .0) (c .if3 .left)
+
+pub find-in-spec : {M : Type 1} → statement M
+find-in-spec =
+    tie.close
+    (tie.spec
+    full-size-requires
+    is-directory-requires
+    returns
+    first-of-requires
+    returns-2
+    match-from-requires
+    returns-3
+    (λ c. search needs)
+    returns-4)

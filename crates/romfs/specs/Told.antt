@@ -1,0 +1,43 @@
+-- What the answers of the requests tell: number, place and values.
+use Prim.Native.Nat.{ℕ}
+use Rattle.romfs_rules.specs.Rules.{Verdict, accepted, refused}
+use Rattle.romfs_rules.specs.Answers.{Answer, granted, denied, Entry}
+use Rattle.romfs.specs.declared.Fault.{Fault}
+use Rattle.romfs.specs.declared.Fault.the-variants as fault
+use Rattle.romfs.specs.declared.CheckAnswer.{CheckAnswer}
+use Rattle.romfs.specs.declared.CheckAnswer.the-variants as checks
+use Rattle.romfs.specs.declared.FindAnswer.{FindAnswer}
+use Rattle.romfs.specs.declared.FindAnswer.the-variants as finds
+use Rattle.romfs.specs.declared.EntryAnswer.{EntryAnswer}
+use Rattle.romfs.specs.declared.EntryAnswer.the-variants as entries
+use Rattle.romfs.specs.declared.ContentAnswer.{ContentAnswer}
+use Rattle.romfs.specs.declared.ContentAnswer.the-variants as contents
+
+-- 21 to 25 are faults of the volume header, at 0; 26 to 29 name a header
+abbrev pub toldFault : Fault → Verdict
+toldFault (fault.Volume n) = refused n 0
+toldFault (fault.Header n p) = refused n p
+
+abbrev pub told : CheckAnswer → Verdict
+told checks.Accepted = accepted
+told (checks.Refused f) = toldFault f
+
+-- the refusal of an image, as the answer of another request
+abbrev pub toldUnsound : {A : Type 0} → Fault → Answer A
+toldUnsound (fault.Volume n) = denied n 0
+toldUnsound (fault.Header n p) = denied n p
+
+abbrev pub toldFind : FindAnswer → Answer ℕ
+toldFind (finds.Found p) = granted p
+toldFind (finds.Refused n) = denied n 0
+toldFind (finds.Inconsistent f) = toldUnsound f
+
+abbrev pub toldEntry : EntryAnswer → Answer Entry
+toldEntry (entries.Entry k x i z n l) = granted (record { type = k; executable = x; info = i; size = z; next = n; nameLength = l })
+toldEntry (entries.Refused n) = denied n 0
+toldEntry (entries.Inconsistent f) = toldUnsound f
+
+abbrev pub toldContent : ContentAnswer → Answer ℕ
+toldContent (contents.Length n) = granted n
+toldContent (contents.Refused n) = denied n 0
+toldContent (contents.Inconsistent f) = toldUnsound f

@@ -1,0 +1,14 @@
+pub mod Layout
+pub mod Rules
+pub mod Reached
+pub mod Check
+pub mod Answers
+pub mod Facts
+pub mod Visit
+pub mod Lowest
+pub mod Walked
+pub mod Seek
+pub mod Links
+pub mod Theorems
+pub mod Given
+pub mod Example
