@@ -83,4 +83,3 @@ pub fn remove_sound(image: &mut [u8], name: &[u8]) -> Done
     erase_file(image, s, &list[0..k]);
     Done::Granted
 }
-
