@@ -30,7 +30,7 @@ count : (c : tie.After-count-of) → Moves (now (count-start c .args .image)) (c
 count c =
     let start = count-start c in
     moves (c .before .before .file-size .result) (start .args .offset) (length (now (start .args .buf))) (c .count-of .result)
-    (file (c .before .before .before .before)) (c .before .before .file-size .ensures) (c .before .if2 .left) (c .count-of .ensures)
+    (file (c .before .before .before .before)) (c .before .before .file-size .ensures) (omega arith) (c .count-of .ensures)
 
 blocks : (c : tie.After-file-blocks) → take (c .file-blocks .result - 1) (drop 1 (c .file-blocks .last .1 .1 .0)) ≡ contentList (block 512 (now (blocks-start c .args .image)) (blocks-start c .args .handle))
 blocks c =
@@ -72,7 +72,7 @@ write-runs-requires c κs =
     let made = c .before .before .before in
     let m = count (made .before .before .before) in
     let bs = take (made .file-blocks .result - 1) (drop 1 (made .file-blocks .last .1 .1 .0)) in
-    (blocks-inside (m .holds) bs (blocks made), search needs, blocks-reach m bs (blocks made), blocks-few (m .holds) bs (blocks made))
+    (blocks-inside (m .holds) bs (blocks made), search needs, omega (arith, blocks-reach m bs (blocks made)), blocks-few (m .holds) bs (blocks made))
 
 returns-3 : tie.Need-returns-3
 returns-3 c =
