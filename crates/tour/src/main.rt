@@ -71,7 +71,7 @@ fn checked(c: Checked) {
 }
 
 // Writes into the file and reads it back.
-fn use_file(image: &mut [u8], handle: u32) {
+fn use_file(image: &mut [u8; 65536], handle: u32) {
     answer(
         b"write 5 bytes at 10: ",
         tfs_transfer::write(image, handle, 10, b"hello"),
@@ -95,10 +95,8 @@ fn use_file(image: &mut [u8], handle: u32) {
     answer(b"free bytes: ", tfs_look::free_bytes(image));
 }
 
-fn damage(image: &mut [u8]) {
-    if 515 < image.len() {
-        image[515] = 7;
-    }
+fn damage(image: &mut [u8; 65536]) {
+    image[515] = 7;
     checked(tfs_check::check(image));
     answer(b"open TIMING: ", tfs_look::open(image, b"TIMING"));
 }
