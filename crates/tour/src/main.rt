@@ -93,9 +93,11 @@ fn use_file(image: &mut [u8; 65536], handle: u32) {
         tfs_transfer::write(image, handle, 1001, b"hello"),
     );
     answer(b"free bytes: ", tfs_look::free_bytes(image));
+    checked(tfs_check::check(image));
 }
 
 fn damage(image: &mut [u8; 65536]) {
+    text(b"one byte of the map is damaged\n");
     image[515] = 7;
     checked(tfs_check::check(image));
     answer(b"open TIMING: ", tfs_look::open(image, b"TIMING"));
@@ -110,7 +112,5 @@ fn main() {
     );
     answer(b"open TIMING: handle ", tfs_look::open(&image, b"TIMING"));
     use_file(&mut image, 3);
-    checked(tfs_check::check(&image));
-    text(b"one byte of the map is damaged\n");
     damage(&mut image);
 }
