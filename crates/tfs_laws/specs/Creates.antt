@@ -124,10 +124,10 @@ module _ (B : ℕ) (sz : BlockSize B) (img : List ℕ) (ok : Consistent B img) (
       (sym (getD-take (1 + need B z) (freeFrom (v .map) 0 (v .n)) j 0 l))
       (free-rising (v .map) 0 (v .n) m j a (omega (arith, free-count v, gr .room)))
 
-  record Picked (b : ℕ) : Type 0 where
-    below : b < v .n
-    above : 3 ≤ b
-    unowned : Owned B v b → ⊥
+  pub record Picked (b : ℕ) : Type 0 where
+    pub below : b < v .n
+    pub above : 3 ≤ b
+    pub unowned : Owned B v b → ⊥
 
   picked : (b : ℕ) → In b cs → Picked b
   picked b p =
@@ -141,7 +141,7 @@ module _ (B : ℕ) (sz : BlockSize B) (img : List ℕ) (ok : Consistent B img) (
         unowned = λ w. un (inr w);
       }
 
-  at-cs : (m : ℕ) → m < length cs → Picked (getD cs m 0)
+  pub at-cs : (m : ℕ) → m < length cs → Picked (getD cs m 0)
   at-cs m h = picked (getD cs m 0) (at-in cs m h)
 
   first : Picked i

@@ -1,0 +1,3 @@
+pub mod Told
+pub mod Passed
+pub mod Ready

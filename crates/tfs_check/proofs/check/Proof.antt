@@ -1,0 +1,98 @@
+-- `check` meets its contract.
+use mathlib.Core.Path.{_≡_, _∙_}
+use mathlib.Core.Bool.{false}
+use native.Mathlib.Omega.{arith}
+use denote.Ref.{now}
+use borrow.Author.Tests.{lt-ltb, le-ltb}
+use Rattle.lists.specs.Least.{least, least-le}
+use Rattle.tfs_rules.specs.Layout.{blocks}
+use Rattle.tfs_rules.specs.View.{view}
+use Rattle.tfs_rules.specs.Check.{badSlot, badInode, check}
+use Rattle.tfs_tally.specs.Files.{Formed}
+use Rattle.tfs_check.specs.Order.{blocksVerdict, inOrder, check-is, slots-at}
+use borrow.Author.Needs.{needs}
+use Rattle.tfs_check.proofs.check.Statement.{statement}
+use Rattle.tfs_check.proofs.check.Tie as tie
+
+returns : tie.Need-returns
+returns c = (rw (check-is (now (c .before .before .args .image)), lt-ltb _ _ (c .if1 .taken)), omega arith)
+
+returns-2 : tie.Need-returns-2
+returns-2 c =
+    let long = c .before .before in
+    (rw (check-is (now (long .before .before .args .image)), le-ltb _ _ (long .if1 .left), ← c .before .magic-wrong .ensures, c .if2 .taken), omega arith)
+
+returns-3 : tie.Need-returns-3
+returns-3 c =
+    let magical = c .before .before in
+    let long = magical .before .before in
+    (rw (check-is (now (long .before .before .args .image)), le-ltb _ _ (long .if1 .left), ← magical .before .magic-wrong .ensures, magical .if2 .left, ← c .before .label-wrong .ensures, c .if3 .taken), omega arith)
+
+-- the header is right: the later rules decide
+headed : (c : tie.Else3) → check 512 (now (c .before .before .before .before .before .before .args .image)) ≡ inOrder false false false (least (badSlot (view 512 (now (c .before .before .before .before .before .before .args .image)))) 25) (least (badInode 512 (view 512 (now (c .before .before .before .before .before .before .args .image)))) 25) (blocksVerdict (blocks 512 (now (c .before .before .before .before .before .before .args .image))) (view 512 (now (c .before .before .before .before .before .before .args .image))))
+headed c =
+    let magical = c .before .before in
+    let long = magical .before .before in
+    rw (check-is (now (long .before .before .args .image)), le-ltb _ _ (long .if1 .left), ← magical .before .magic-wrong .ensures, magical .if2 .left, ← c .before .label-wrong .ensures, c .if3 .left)
+
+-- what the search through the slots found
+slot : (c : tie.After-first-bad-slot) → c .first-bad-slot .result ≡ least (badSlot (view 512 (now (c .before .before .before .before .before .before .before .before .before .args .image)))) 25
+slot c =
+    c .first-bad-slot .ensures
+    ∙ slots-at (now (c .before .before .before .before .before .before .before .before .before .args .image)) (c .before .before .blocks2 .result) (c .before .before .blocks2 .ensures .0)
+
+returns-4 : tie.Need-returns-4
+returns-4 c = (rw (headed (c .before .before .before .before), ← slot (c .before), lt-ltb _ _ (c .if4 .taken)), omega arith)
+
+-- no slot is bad
+formed : (c : tie.Else4) → Formed (now (c .before .before .before .before .before .before .before .before .before .before .args .image))
+formed c =
+    let img = now (c .before .before .before .before .before .before .before .before .before .before .args .image) in
+    record { long = omega arith; slots = omega (arith, slot (c .before), least-le (badSlot (view 512 img)) 25) }
+
+returns-5 : tie.Need-returns-5
+returns-5 c =
+    let past = c .before .before in
+    (rw (headed (past .before .before .before .before), ← slot (past .before), le-ltb _ _ (past .if4 .left), ← c .before .first-bad-inode .ensures, lt-ltb _ _ (c .if5 .taken)), omega arith)
+
+check-blocks-requires : tie.Need-check-blocks-requires
+check-blocks-requires c κs =
+    let past = c .before .before in
+    let img = now (past .before .before .before .before .before .before .before .before .before .before .args .image) in (
+      record {
+        long = formed past .long;
+        slots = formed past .slots;
+        inodes = omega (arith, c .before .first-bad-inode .ensures, least-le (badInode 512 (view 512 img)) 25);
+      },
+      search needs,
+    )
+
+returns-6 : tie.Need-returns-6
+returns-6 c =
+    let past = c .before .before .before in (
+      rw (headed (past .before .before .before .before), ← slot (past .before), le-ltb _ _ (past .if4 .left), ← c .before .before .first-bad-inode .ensures, le-ltb _ _ (c .before .if5 .left), ← past .before .before .before .blocks2 .ensures .0)
+          (c .check-blocks .ensures .0),
+      c .check-blocks .ensures .1,
+    )
+
+pub check-spec : {M : Type 1} → statement M
+check-spec =
+    tie.close
+    (tie.spec
+    returns
+    (λ c κs. search needs)
+    returns-2
+    (λ c κs. search needs)
+    returns-3
+    (λ c κs. search needs)
+    (λ c. search needs)
+    (λ c. search needs)
+    (λ c. search needs)
+    (λ c κs. search needs)
+    (λ c. search needs)
+    returns-4
+    (λ c κs. (formed c, c .before .before .before .blocks2 .ensures .0))
+    (λ c. search needs)
+    returns-5
+    check-blocks-requires
+    returns-6)

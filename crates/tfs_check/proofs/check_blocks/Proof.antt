@@ -1,0 +1,58 @@
+-- `check_blocks` meets its contract.
+use mathlib.Core.Path.{_≡_, _∙_}
+use denote.Ref.{now}
+use borrow.Author.Tests.{lt-ltb, le-ltb}
+use Rattle.lists.specs.Least.{least}
+use Rattle.tfs_rules.specs.View.{view}
+use Rattle.tfs_rules.specs.Check.{claims, claimedTwice, badBit}
+use Rattle.tfs_check.specs.Order.{blocksVerdict, twice-at, bits-at}
+use native.Mathlib.Omega.{arith}
+use borrow.Author.Needs.{needs}
+use Rattle.tfs_check.proofs.check_blocks.Statement.{statement}
+use Rattle.tfs_check.proofs.check_blocks.Tie as tie
+
+-- what the two searches found
+twice : (c : tie.After-first-twice) → c .first-twice .result ≡ least (claimedTwice (claims 512 (view 512 (now (c .before .before .before .before .before .args .image))))) (c .before .before .before .before .before .args .n)
+twice c =
+    let start = c .before .before .before .before .before in
+    rw (c .before .before .tally-files .ensures) at (c .first-twice .ensures)
+    ∙ twice-at (now (start .args .image)) (start .pre .0) (start .args .n) (start .pre .1)
+
+bit : (c : tie.After-first-bad-bit) → c .first-bad-bit .result ≡ least (badBit (view 512 (now (c .before .before .before .before .before .before .before .before .before .args .image))) (claims 512 (view 512 (now (c .before .before .before .before .before .before .before .before .before .args .image))))) (c .before .before .before .before .before .before .before .before .before .args .n)
+bit c =
+    let found = c .before .before .before .before in
+    let start = found .before .before .before .before .before in
+    rw (found .before .before .tally-files .ensures) at (c .first-bad-bit .ensures)
+    ∙ bits-at (now (start .args .image)) (start .pre .0) (start .args .n) (start .pre .1)
+
+returns : tie.Need-returns
+unfolding blocksVerdict
+returns c = (rw (← twice (c .before), lt-ltb _ _ (c .if1 .taken)), omega arith)
+
+returns-2 : tie.Need-returns-2
+unfolding blocksVerdict
+returns-2 c =
+    let past = c .before .before .before .before in
+    (rw (← twice (past .before), le-ltb _ _ (past .if1 .left), ← bit (c .before), lt-ltb _ _ (c .if2 .taken)), omega arith)
+
+returns-3 : tie.Need-returns-3
+unfolding blocksVerdict
+returns-3 c =
+    let past = c .before .before .before .before in
+    (rw (← twice (past .before), le-ltb _ _ (past .if1 .left), ← bit (c .before), le-ltb _ _ (c .if2 .left)), tt)
+
+pub check-blocks-spec : {M : Type 1} → statement M
+check-blocks-spec =
+    tie.close
+    (tie.spec
+    (λ c κs. search needs)
+    (λ c κs. search needs)
+    (λ c. search needs)
+    returns
+    (λ c. search needs)
+    (λ c. search needs)
+    (λ c. search needs)
+    (λ c κs. search needs)
+    (λ c. search needs)
+    returns-2
+    returns-3)

@@ -1,0 +1,21 @@
+-- `format_head` meets its contract: the part is the block.
+use Rattle.lists.specs.Part.{withPart}
+use Rattle.tfs_rules.specs.Layout.{setBlock}
+use borrow.Author.Needs.{needs}
+use Rattle.tfs_steps.proofs.format.format_head.Statement.{statement}
+use Rattle.tfs_steps.proofs.format.format_head.Tie as tie
+
+returns : tie.Need-returns
+unfolding setBlock withPart
+returns c = rw (c .before .before .fill-head .ensures)
+
+pub format-head-spec : {M : Type 1} → statement M
+format-head-spec =
+    tie.close
+    (tie.spec
+    (λ c. search needs)
+    (λ c. search needs)
+    (λ c. search needs)
+    (λ c κs. search needs)
+    (λ c. search needs)
+    returns)

@@ -1,0 +1,21 @@
+-- `release` meets its contract: the part is the block.
+use Rattle.lists.specs.Part.{part, withPart}
+use Rattle.tfs_rules.specs.Layout.{block, setBlock}
+use borrow.Author.Needs.{needs}
+use Rattle.tfs_steps.proofs.low.release.Statement.{statement}
+use Rattle.tfs_steps.proofs.low.release.Tie as tie
+
+returns : tie.Need-returns
+unfolding block setBlock part withPart
+returns c = rw (c .before .before .clear-bits .ensures)
+
+pub release-spec : {M : Type 1} → statement M
+release-spec =
+    tie.close
+    (tie.spec
+    (λ c. search needs)
+    (λ c. search needs)
+    (λ c. search needs)
+    (λ c κs. search needs)
+    (λ c. search needs)
+    returns)

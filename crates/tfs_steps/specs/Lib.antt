@@ -1,0 +1,4 @@
+pub mod File
+pub mod Format
+pub mod Place
+pub mod Erase

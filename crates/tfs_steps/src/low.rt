@@ -1,0 +1,42 @@
+// The map and the directory changed in place, in blocks 1 and 2.
+ghost use mathlib.Core.Path.{_≡_};
+ghost use Prim.Native.Nat.{_≤_, _<_};
+ghost use lib.ListN.{length, replicate};
+ghost use Rattle.tfs_rules.specs.Layout.{block, setBlock, setBits, setSlot, entry};
+ghost use Rattle.tfs_map.specs.Under.{Under};
+use tfs_dir::write::clear_slot;
+use tfs_dir::write::put_slot;
+use tfs_map::bits::clear_bits;
+use tfs_map::bits::set_bits;
+
+// Reserves the blocks.
+pub fn reserve(image: &mut [u8], blocks: &[u32])
+    requires { ⌜ (1536 ≤ length (now image)) × Under 4096 (now blocks) ⌝ }
+    ensures { λ _. ⌜ now (image .exit) ≡ setBlock 512 (now (image .entry)) 1 (setBits (block 512 (now (image .entry)) 1) 1 (now (blocks .entry))) ⌝ }
+{
+    set_bits(&mut image[512..1024], blocks);
+}
+
+// Makes the blocks free.
+pub fn release(image: &mut [u8], blocks: &[u32])
+    requires { ⌜ (1536 ≤ length (now image)) × Under 4096 (now blocks) ⌝ }
+    ensures { λ _. ⌜ now (image .exit) ≡ setBlock 512 (now (image .entry)) 1 (setBits (block 512 (now (image .entry)) 1) 0 (now (blocks .entry))) ⌝ }
+{
+    clear_bits(&mut image[512..1024], blocks);
+}
+
+// Enters a file in slot s.
+pub fn enter(image: &mut [u8], s: usize, inode: u32, name: &[u8])
+    requires { ⌜ (1536 ≤ length (now image)) × (s < 25) × (length (now name) ≤ 15) ⌝ }
+    ensures { λ _. ⌜ now (image .exit) ≡ setBlock 512 (now (image .entry)) 2 (setSlot (block 512 (now (image .entry)) 2) s (entry inode (now (name .entry)))) ⌝ }
+{
+    put_slot(&mut image[1024..1536], s, inode, name);
+}
+
+// Makes slot s free.
+pub fn vacate(image: &mut [u8], s: usize)
+    requires { ⌜ (1536 ≤ length (now image)) × (s < 25) ⌝ }
+    ensures { λ _. ⌜ now (image .exit) ≡ setBlock 512 (now (image .entry)) 2 (setSlot (block 512 (now (image .entry)) 2) s (replicate 20 0)) ⌝ }
+{
+    clear_slot(&mut image[1024..1536], s);
+}

@@ -1,0 +1,92 @@
+-- The files of a volume whose slots are formed: where their inodes lie.
+use mathlib.Core.Path.{_≡_, refl, sym, ap, ap₂, _∙_}
+use mathlib.Core.Bool.{Bool, true, false, not, cond, _&&_, _||_}
+use Prim.Native.Nat.{ℕ, _+_, _*_, _≤_, _<_}
+use native.Mathlib.Omega.{arith}
+use mathlib.Core.List.{List, []}
+use lib.ListN.{length, getD, take, drop}
+use lib.Dec.{T, leb, ltb, leb→le, ltb→lt}
+use Rattle.lists.specs.Test.{of-true, no-false, and-l, and-r}
+use Rattle.lists.specs.Least.{least, least-none}
+use Rattle.lists.specs.Part.{part}
+use Rattle.tfs_rules.specs.Layout.{blocks, block, slot, slotInode, slotFree, slotUsed, inRange, nameFormed, nameField}
+use Rattle.tfs_rules.specs.View.{View, view, viewN, free, used, inode}
+use Rattle.tfs_rules.specs.Check.{repeats, badSlot, badInode, fileClaims}
+use Rattle.tfs_rules.specs.Consistent.{Inside}
+use Rattle.tfs_laws.specs.Sizes.{in-image}
+use Rattle.tfs_laws.specs.Views.{view-n, inode-block}
+use Rattle.tfs_inode.specs.Claims.{claimList, file-claims}
+use Rattle.tfs_inode.specs.Wrong.{inodeWrong, bad-inode}
+
+-- rules 1 and 4 hold
+pub record Formed (img : List ℕ) : Type 0 where
+  pub long : 1536 ≤ length img
+  pub slots : least (badSlot (view 512 img)) 25 ≡ 25
+
+-- and rule 5
+pub record Sized (img : List ℕ) : Type 0 where
+  pub long : 1536 ≤ length img
+  pub slots : least (badSlot (view 512 img)) 25 ≡ 25
+  pub inodes : least (badInode 512 (view 512 img)) 25 ≡ 25
+
+pub blocks-le : (img : List ℕ) → blocks 512 img ≤ 4096
+unfolding blocks
+blocks-le img = omega arith
+
+-- ---- the directory as a part of the image
+pub free-at : (img : List ℕ) (s : ℕ) → slotFree (slot (take 512 (drop 1024 img)) s) ≡ free (view 512 img) s
+unfolding free view viewN block part
+free-at img s = refl
+
+pub inode-at : (img : List ℕ) (s : ℕ) → slotInode (slot (take 512 (drop 1024 img)) s) ≡ inode (view 512 img) s
+unfolding inode view viewN block part
+inode-at img s = refl
+
+-- ---- a slot that is not bad, and not free
+used-of : (f u r : Bool) → (not f && (not u || r)) ≡ false → f ≡ false → u ≡ true
+used-of true u r e z = cc
+used-of false true r e z = refl
+used-of false false r e z = sym e
+
+module _ (v : View) (s : ℕ) (fine : badSlot v s ≡ false) (taken : free v s ≡ false) where
+  pub slot-inside : Inside v (inode v s)
+  unfolding badSlot used slotUsed inode
+  slot-inside =
+      let i : ℕ = slotInode (slot (v .dir) s) in
+      let u : T (used v s) = of-true (used v s) (used-of (free v s) (used v s) (repeats v s) fine taken) in
+      let r : T (inRange (v .n) i) = and-l (inRange (v .n) i) (nameFormed (nameField (slot (v .dir) s))) u in
+      record { low = leb→le 3 i (and-l (leb 3 i) (ltb i (v .n)) r); high = ltb→lt i (v .n) (and-r (leb 3 i) (ltb i (v .n)) r) }
+
+module _ (img : List ℕ) (s : ℕ) (below : s < 25) (none : least (badSlot (view 512 img)) 25 ≡ 25) (taken : free (view 512 img) s ≡ false) where
+  inside : Inside (view 512 img) (inode (view 512 img) s)
+  inside = slot-inside (view 512 img) s (no-false (badSlot (view 512 img) s) (least-none (badSlot (view 512 img)) 25 (omega arith) s below)) taken
+
+  -- the inode's number, and its block in the image
+  pub inode-under : inode (view 512 img) s < blocks 512 img
+  inode-under = omega (arith, inside .high, view-n 512 img)
+
+  pub inode-fits : inode (view 512 img) s * 512 + 512 ≤ length img
+  inode-fits = in-image 512 (inode (view 512 img) s) img inode-under
+
+  pub inode-part : getD (view 512 img .inodes) s [] ≡ take 512 (drop (inode (view 512 img) s * 512) img)
+  unfolding block part
+  inode-part = inode-block 512 img s below inside
+
+  -- rule 5 of the slot is that of its block
+  pub wrong-at : badInode 512 (view 512 img) s ≡ inodeWrong 512 (blocks 512 img) (take 512 (drop (inode (view 512 img) s * 512) img))
+  wrong-at =
+      let v : View = view 512 img in
+      bad-inode 512 v s
+      ∙ ap (λ (f : Bool). not f && inodeWrong 512 (v .n) (getD (v .inodes) s [])) taken
+      ∙ ap₂ (inodeWrong 512) (view-n 512 img) inode-part
+
+  -- and where the slot does not break it, the blocks that it claims
+  pub right-at : least (badInode 512 (view 512 img)) 25 ≡ 25 → inodeWrong 512 (blocks 512 img) (take 512 (drop (inode (view 512 img) s * 512) img)) ≡ false
+  right-at sized = sym wrong-at ∙ no-false (badInode 512 (view 512 img) s) (least-none (badInode 512 (view 512 img)) 25 (omega arith) s below)
+
+  pub claims-at : fileClaims 512 (view 512 img) s ≡ claimList (inode (view 512 img) s) (take 512 (drop (inode (view 512 img) s * 512) img))
+  claims-at =
+      let v : View = view 512 img in
+      file-claims v s
+      ∙ ap (λ (f : Bool). cond f [] (claimList (inode v s) (getD (v .inodes) s []))) taken
+      ∙ ap (claimList (inode v s)) inode-part

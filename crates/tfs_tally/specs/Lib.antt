@@ -1,0 +1,3 @@
+pub mod Files
+pub mod Claimed
+pub mod Counts

@@ -1,0 +1,116 @@
+// Shows the main job: a volume is formatted, a file created, written and read back; then one byte of the map is damaged,
+// and the volume is refused with the fault and its place.
+use libc::STDOUT_FILENO;
+use tfs_answers::Answer;
+use tfs_answers::Done;
+use tfs_check::Checked;
+use tfs_check::Fault;
+
+fn text(words: &[u8]) {
+    io::write_all(STDOUT_FILENO, words);
+}
+
+fn number(n: u32) {
+    io::print_decimal(STDOUT_FILENO, n as u64);
+}
+
+fn fault(f: Fault) {
+    match f {
+        Fault::Header(num) => {
+            text(b"refused ");
+            number(num);
+        }
+        Fault::Slot(num, slot) => {
+            text(b"refused ");
+            number(num);
+            text(b", slot ");
+            number(slot);
+        }
+        Fault::Block(num, block) => {
+            text(b"refused ");
+            number(num);
+            text(b", block ");
+            number(block);
+        }
+    }
+}
+
+fn done(what: &[u8], d: Done) {
+    text(what);
+    match d {
+        Done::Granted => text(b"granted"),
+        Done::Refused(num) => {
+            text(b"refused ");
+            number(num);
+        }
+        Done::Inconsistent(f) => fault(f),
+    }
+    text(b"\n");
+}
+
+fn answer(what: &[u8], a: Answer) {
+    text(what);
+    match a {
+        Answer::Granted(n) => number(n),
+        Answer::Refused(num) => {
+            text(b"refused ");
+            number(num);
+        }
+        Answer::Inconsistent(f) => fault(f),
+    }
+    text(b"\n");
+}
+
+fn checked(c: Checked) {
+    text(b"check: ");
+    match c {
+        Checked::Consistent => text(b"consistent"),
+        Checked::Refused(f) => fault(f),
+    }
+    text(b"\n");
+}
+
+// Writes into the file and reads it back.
+fn use_file(image: &mut [u8; 65536], handle: u32) {
+    answer(
+        b"write 5 bytes at 10: ",
+        tfs_transfer::write(image, handle, 10, b"hello"),
+    );
+    let mut back = [0u8; 5];
+    answer(
+        b"read 5 bytes at 10: ",
+        tfs_transfer::read(image, handle, 10, &mut back),
+    );
+    text(b"read back: ");
+    text(&back);
+    text(b"\n");
+    answer(
+        b"write at the end: ",
+        tfs_transfer::write(image, handle, 1000, b"hello"),
+    );
+    answer(
+        b"write past the end: ",
+        tfs_transfer::write(image, handle, 1001, b"hello"),
+    );
+    answer(b"free bytes: ", tfs_look::free_bytes(image));
+    checked(tfs_check::check(image));
+}
+
+fn damage(image: &mut [u8; 65536]) {
+    text(b"one byte of the map is damaged\n");
+    image[515] = 7;
+    checked(tfs_check::check(image));
+    answer(b"open TIMING: ", tfs_look::open(image, b"TIMING"));
+}
+
+fn main() {
+    let mut image = io::large_buffer();
+    done(b"format PUMP: ", tfs_change::format(&mut image, b"PUMP"));
+    answer(
+        b"create TIMING, 1000 bytes: handle ",
+        tfs_change::create(&mut image, b"TIMING", 1000),
+    );
+    answer(b"open TIMING: handle ", tfs_look::open(&image, b"TIMING"));
+    use_file(&mut image, 3);
+    damage(&mut image);
+}
