@@ -2,7 +2,7 @@
 use Prim.Native.Nat.{ℕ, zero, suc, _+_, _-_, _≤_, _<_}
 use mathlib.Core.Path.{_≡_, refl, sym, ap, subst, _∙_}
 use mathlib.Core.Logic.{_≢_}
-use mathlib.Core.Bool.{Bool, true, false, not, cond, _&&_, _||_}
+use mathlib.Core.Bool.{Bool, true, false}
 use mathlib.Core.List.{List, []}
 use native.Mathlib.Omega.{arith}
 use native.Mathlib.Nat.{add-sub-cancel-left}
@@ -13,14 +13,14 @@ use lib.Dec.{eqb}
 use Rattle.lists.specs.Test.{sameList}
 use Rattle.lists.specs.Part.{part}
 use Rattle.romfs_rules.specs.Layout.{fullSize, pad16, firstRoot, nameLength, kind, executable, next, info, size, name, contentAt, afterName, hasData}
-use Rattle.romfs_rules.specs.Rules.{Verdict, accepted, refused}
+use Rattle.romfs_rules.specs.Rules.{Verdict, accepted}
 use Rattle.romfs_rules.specs.Reached.{along, IsReached}
 use Rattle.romfs_rules.specs.Check.{isReached, check}
 use Rattle.romfs_rules.specs.Answers as answers
 use Rattle.romfs_rules.specs.Answers.{Answer, granted, denied, checked, firstOf, matchFrom, matchIn, isDirectory, found, Entry, entryAt, described, measured, partOf}
 use Rattle.romfs_rules.specs.Walked.{volume-of, sound}
 use Rattle.romfs_rules.specs.Theorems.{check-parts}
-use Rattle.romfs_rules.specs.Given.{first-info, dir-is, Content}
+use Rattle.romfs_rules.specs.Given.{Content}
 use Rattle.romfs.specs.Known.{Walked}
 use Rattle.romfs.specs.Told.{toldFault, toldUnsound}
 use Rattle.romfs.specs.declared.Fault.{Fault}

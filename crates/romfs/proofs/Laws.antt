@@ -1,14 +1,14 @@
 -- Laws of the walks, one for each way that the code takes.
-use Prim.Native.Nat.{ℕ, suc, _+_, _*_, _-_, _/_, _%_, _≤_, _<_, min}
+use Prim.Native.Nat.{ℕ, suc, _+_, _-_, _/_, _%_, _≤_, _<_, min}
 use mathlib.Core.Path.{_≡_, refl, sym, ap, subst, _∙_}
 use mathlib.Core.Logic.{_≢_}
-use mathlib.Core.Bool.{Bool, true, false, not, cond, _&&_, _||_}
+use mathlib.Core.Bool.{Bool, true, false, not, _&&_, _||_}
 use mathlib.Core.List.{List}
 use native.Mathlib.Omega.{arith}
 use borrow.Author.Tests.{eq-eqb, ne-eqb, lt-ltb, le-ltb, ltb-false}
 use lib.Dec.{ltb, eqb}
 use lib.ListN.{length}
-use Rattle.romfs_rules.specs.Layout.{fullSize, firstRoot, nameLength, nameEnds, wordSum, kind, next, info, own, isDots, hasList}
+use Rattle.romfs_rules.specs.Layout.{fullSize, firstRoot, nameLength, nameEnds, wordSum, kind, next, info, isDots, hasList}
 use Rattle.romfs_rules.specs.Rules as rules
 use Rattle.romfs_rules.specs.Rules.{Verdict, accepted, refused, short21, magic22, size23, sum24, name25}
 use Rattle.romfs_rules.specs.Reached.{Reached, root, along, inside, IsReached, Sound}

@@ -477,9 +477,7 @@ fn content_part<'a>(image: &'a [u8], at: usize, n: usize) -> &'a [u8]
     ensures { λ r. ⌜ now r ≡ part (contentAt (now (image .entry)) at) n (now (image .entry)) ⌝ }
 {
     let full = romfs_headers::full_size(image);
-    let start = romfs_headers::after_name(
-        at + 16,
-        romfs_headers::name_length(image, at + 16, full),
-    );
+    let l = romfs_headers::name_length(image, at + 16, full);
+    let start = romfs_headers::after_name(at + 16, l);
     &image[start..start + n]
 }

@@ -1,11 +1,11 @@
 -- What is known of an image at a place of the code.
 use Prim.Native.Nat.{ℕ, _+_, _≤_, _<_, _-_}
 use mathlib.Core.Path.{_≡_}
-use mathlib.Core.Bool.{Bool, true, false}
+use mathlib.Core.Bool.{true, false}
 use mathlib.Core.List.{List}
 use lib.ListN.{length}
 use Rattle.romfs_rules.specs.Layout.{fullSize, nameLength, info, own, hasList}
-use Rattle.romfs_rules.specs.Rules.{Verdict, accepted, refused, fault}
+use Rattle.romfs_rules.specs.Rules.{accepted, refused, fault}
 use Rattle.romfs_headers.specs.declared.Step.{Step}
 use Rattle.romfs_headers.specs.declared.Step.the-variants as step
 

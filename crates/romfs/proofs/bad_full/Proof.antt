@@ -1,4 +1,4 @@
-use borrow.Author.Tests.{eq-eqb, ne-eqb, lt-ltb, le-ltb, le-leb, lt-leb, not-true, not-false}
+use borrow.Author.Tests.{lt-ltb, le-ltb}
 use Rattle.romfs.proofs.bad_full.Statement.{statement}
 use Rattle.romfs.proofs.bad_full.Tie as tie
 

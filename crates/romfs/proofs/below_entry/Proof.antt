@@ -1,5 +1,5 @@
-use borrow.Author.Tests.{eq-eqb, ne-eqb, lt-ltb, le-ltb, le-leb, lt-leb, not-true, not-false}
-use mathlib.Core.Path.{_≡_, refl, sym, ap, _∙_}
+use borrow.Author.Tests.{not-true, not-false}
+use mathlib.Core.Path.{sym, _∙_}
 use Rattle.romfs_rules.specs.Facts.{has-list, no-list, empty-list, own-test}
 use borrow.Author.Needs.{needs}
 use Rattle.romfs.proofs.below_entry.Statement.{statement}

@@ -1,5 +1,4 @@
-use mathlib.Core.Path.{_≡_, refl, sym, ap, _∙_}
-use native.Mathlib.Omega.{arith}
+use mathlib.Core.Path.{sym, ap, _∙_}
 use denote.Ref.{now}
 use Rattle.romfs_rules.specs.Check.{andThen, volume, walk, links}
 use Rattle.romfs.specs.Told.{told, toldFault}

@@ -1,8 +1,7 @@
-use mathlib.Core.Path.{_≡_, refl, sym, ap, _∙_}
-use native.Mathlib.Omega.{arith}
+use mathlib.Core.Path.{sym, ap, _∙_}
 use denote.Ref.{now}
 use Rattle.romfs_rules.specs.Check.{walk, links}
-use Rattle.romfs.specs.Told.{told, toldFault}
+use Rattle.romfs.specs.Told.{told}
 use Rattle.romfs.proofs.Laws as laws
 use borrow.Author.Needs.{needs}
 use Rattle.romfs.proofs.check_headers.Statement.{statement}

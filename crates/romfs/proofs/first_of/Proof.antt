@@ -1,8 +1,7 @@
-use mathlib.Core.Path.{_≡_, refl, sym, ap, _∙_}
-use native.Mathlib.Omega.{arith}
+use mathlib.Core.Path.{sym, _∙_}
 use Rattle.romfs.proofs.Laws as laws
 use Rattle.romfs.proofs.Answers as answers
-use Rattle.romfs_rules.specs.Given.{first-info, dir-is, first-reached, content-in}
+use Rattle.romfs_rules.specs.Given.{first-info, dir-is}
 use Rattle.romfs.proofs.first_of.Statement.{statement}
 use Rattle.romfs.proofs.first_of.Tie as tie
 
