@@ -3,8 +3,8 @@ use native.Mathlib.Omega.{arith}
 use mathlib.Core.Path.{_≡_}
 use denote.Ref.{now}
 use Rattle.romfs_rules.specs.Layout.{contentAt}
-use Rattle.romfs.specs.Known.{Walked}
-use Rattle.romfs.proofs.Laws as laws
+use Rattle.romfs_check.specs.Known.{Walked}
+use Rattle.romfs_check.specs.Facts.{reach-room}
 use Rattle.romfs.proofs.Answers as answers
 use Rattle.romfs.proofs.content_part.Statement.{statement}
 use Rattle.romfs.proofs.content_part.Tie as tie
@@ -20,10 +20,10 @@ full-size-requires c κs = answers.long _ (c .before .pre .sound)
 
 add-name-length : tie.Need-add-name-length
 add-name-length c =
-    let w = walked c in record { fits = omega (arith, laws.reach-room _ _ w _ (c .before .before .pre .reached), w .whole .small) }
+    let w = walked c in record { fits = omega (arith, reach-room _ _ w _ (c .before .before .pre .reached), w .whole .small) }
 
 name-length-requires : tie.Need-name-length-requires
-name-length-requires c κs = let w = walked c in (w .whole, omega (arith, laws.reach-room _ _ w _ (c .before .before .pre .reached)))
+name-length-requires c κs = let w = walked c in (w .whole, omega (arith, reach-room _ _ w _ (c .before .before .pre .reached)))
 
 part-result-end : tie.Need-part-result-end
 part-result-end c = answers.content-end _ _ _ _ _ (c .before .before .before .before .pre) (walked (c .before .before)) (start c)

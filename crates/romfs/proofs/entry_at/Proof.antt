@@ -7,8 +7,8 @@ use denote.Ref.{now}
 use Rattle.romfs_rules.specs.Reached.{IsReached}
 use Rattle.romfs_rules.specs.Check.{isReached}
 use Rattle.romfs_rules.specs.Seek.{is-reached}
-use Rattle.romfs.specs.Known.{Walked}
-use Rattle.romfs.proofs.Laws as laws
+use Rattle.romfs_check.specs.Known.{Walked}
+use Rattle.romfs_check.specs.Facts.{reach-room}
 use Rattle.romfs.proofs.Answers as answers
 use Rattle.romfs.proofs.entry_at.Statement.{statement}
 use Rattle.romfs.proofs.entry_at.Tie as tie
@@ -49,12 +49,12 @@ next-of-requires c κs = answers.in-image _ _ (walked (c .before .before .before
 add-name-length : tie.Need-add-name-length
 add-name-length c =
     let w = walked (c .before .before .before .before .before .before .before) in
-    record { fits = omega (arith, laws.reach-room _ _ w _ (reached (c .before .before .before .before .before)), w .whole .small) }
+    record { fits = omega (arith, reach-room _ _ w _ (reached (c .before .before .before .before .before)), w .whole .small) }
 
 name-length-requires : tie.Need-name-length-requires
 name-length-requires c κs =
     let w = walked (c .before .before .before .before .before .before .before) in
-    (w .whole, omega (arith, laws.reach-room _ _ w _ (reached (c .before .before .before .before .before))))
+    (w .whole, omega (arith, reach-room _ _ w _ (reached (c .before .before .before .before .before))))
 
 returns-2 : tie.Need-returns-2
 returns-2 c =

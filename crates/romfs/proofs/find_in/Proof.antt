@@ -6,7 +6,7 @@ use denote.Ref.{now}
 use Rattle.romfs_rules.specs.Reached.{IsReached}
 use Rattle.romfs_rules.specs.Answers.{isDirectory}
 use Rattle.romfs_rules.specs.Given.{first-reached}
-use Rattle.romfs.specs.Known.{Walked}
+use Rattle.romfs_check.specs.Known.{Walked}
 use Rattle.romfs.proofs.Answers as answers
 use Rattle.romfs.proofs.find_in.Statement.{statement}
 use Rattle.romfs.proofs.find_in.Tie as tie

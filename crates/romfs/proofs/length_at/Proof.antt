@@ -5,7 +5,7 @@ use mathlib.Core.Bool.{true}
 use denote.Ref.{now}
 use Rattle.romfs_rules.specs.Check.{isReached}
 use Rattle.romfs_rules.specs.Seek.{is-reached}
-use Rattle.romfs.specs.Known.{Walked}
+use Rattle.romfs_check.specs.Known.{Walked}
 use Rattle.romfs.proofs.Answers as answers
 use Rattle.romfs.proofs.length_at.Statement.{statement}
 use Rattle.romfs.proofs.length_at.Tie as tie
