@@ -18,7 +18,7 @@ use Rattle.romfs_rules.specs.Visit.{list-refused, list-last, list-next, entry-r
 use Rattle.romfs_rules.specs.Walked.{Volume, full-from, full-to, root-to, visit-none, visit-root, sound, reached-in, reached-room}
 use Rattle.romfs_rules.specs.Links.{linkFault}
 use Rattle.romfs_rules.specs.Seek.{seek-here, seek-none, seek-on, is-none, is-seek, towards-reached, towards-further}
-use Rattle.romfs_headers.specs.Known.{Whole, Reads}
+use Rattle.romfs_headers.specs.Known.{Whole, Reads, stepOf, step-reads}
 use Rattle.romfs_check.specs.Known.{Walked, Lies}
 use Rattle.romfs_check.specs.Facts.{reach-room, sound-next}
 use Rattle.romfs_check.specs.declared.Below.{Below}
@@ -62,8 +62,8 @@ pub sound-room : (s : List ℕ) (bound d p : ℕ) → Sound s p bound d → p + 
 sound-room s bound d p h = omega (arith, room s p, ends s p bound d h)
 
 -- ---- a step
-pub reads-of : (s : List ℕ) (bound left p : ℕ) {a b : Step} → a ≡ b → Reads s bound left p a → Reads s bound left p b
-reads-of s bound left p e h = rw e at h
+pub reads-of : (s : List ℕ) (bound left p : ℕ) {a b : Step} → a ≡ b → a ≡ stepOf s bound left p → Reads s bound left p b
+reads-of s bound left p {a} {b} e h = step-reads s bound left p b (sym e ∙ h)
 
 module _ (s : List ℕ) (bound left p : ℕ) (l : left ≤ 7) where
   pub step-broken : (n : ℕ) → Reads s bound left p (step.Broken n) → refused n p ≡ visitEntry s (rules.fault s) left bound p
