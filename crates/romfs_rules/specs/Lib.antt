@@ -11,4 +11,5 @@ pub mod Seek
 pub mod Links
 pub mod Theorems
 pub mod Given
+pub mod Find
 pub mod Example
