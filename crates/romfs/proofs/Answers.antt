@@ -6,7 +6,6 @@ use mathlib.Core.Bool.{Bool, true, false}
 use mathlib.Core.List.{List, []}
 use native.Mathlib.Omega.{arith}
 use native.Mathlib.Nat.{add-sub-cancel-left}
-use native.Mathlib.Numerals.{sub-one}
 use borrow.Author.Tests.{eq-eqb, ne-eqb}
 use lib.ListN.{length, take, drop}
 use lib.Dec.{eqb}
@@ -20,6 +19,7 @@ use Rattle.romfs_rules.specs.Answers as answers
 use Rattle.romfs_rules.specs.Answers.{Answer, granted, denied, checked, firstOf, matchFrom, matchIn, isDirectory, found, Entry, entryAt, described, measured, partOf}
 use Rattle.romfs_rules.specs.Walked.{volume-of, sound}
 use Rattle.romfs_rules.specs.Theorems.{check-parts}
+use Rattle.romfs_rules.specs.Find.{match-yes, match-end, match-next}
 use Rattle.romfs_rules.specs.Given.{Content}
 use Rattle.romfs_check.specs.Known.{Walked}
 use Rattle.romfs_check.specs.Told.{toldFault}
@@ -80,21 +80,6 @@ pub record Match (s want : List ℕ) (full first p : ℕ) : Type 0 where
 
 pub match-start : (s want : List ℕ) (full first : ℕ) → Match s want full first first
 match-start s want full first = record { fuel = full; enough = omega arith; same = refl }
-
-match-yes : (s want : List ℕ) (f p : ℕ) → 0 < f → sameList (name s p) want ≡ true → matchFrom s want f p ≡ p
-unfolding matchFrom
-match-yes s want zero p h t = absurd (omega arith)
-match-yes s want (suc f) p h t = rw t
-
-match-end : (s want : List ℕ) (f p : ℕ) → 0 < f → sameList (name s p) want ≡ false → next s p ≡ 0 → matchFrom s want f p ≡ 0
-unfolding matchFrom
-match-end s want zero p h t z = absurd (omega arith)
-match-end s want (suc f) p h t z = rw (t, eq-eqb (next s p) 0 z)
-
-match-next : (s want : List ℕ) (f p : ℕ) → 0 < f → sameList (name s p) want ≡ false → next s p ≢ 0 → matchFrom s want f p ≡ matchFrom s want (f - 1) (next s p)
-unfolding matchFrom
-match-next s want zero p h t z = absurd (omega arith)
-match-next s want (suc f) p h t z = rw (t, ne-eqb (next s p) 0 z, sub-one)
 
 -- a name's bytes, compared
 pub name-test : (s want : List ℕ) (p n : ℕ) (r : Bool) → r ≡ sameList (part (p + 16) n s) want → n ≡ nameLength s (p + 16) → r ≡ sameList (name s p) want

@@ -11,3 +11,4 @@ pub mod Seek
 pub mod Links
 pub mod Theorems
 pub mod Given
+pub mod Find
