@@ -33,14 +33,23 @@ struct Entry {
 
 fn of_fault(f: Fault) -> Verdict {
     match f {
-        Fault::Volume(n) => Verdict { refusal: n, place: 0 },
-        Fault::Header(n, at) => Verdict { refusal: n, place: at },
+        Fault::Volume(n) => Verdict {
+            refusal: n,
+            place: 0,
+        },
+        Fault::Header(n, at) => Verdict {
+            refusal: n,
+            place: at,
+        },
     }
 }
 
 fn of_check(a: CheckAnswer) -> Verdict {
     match a {
-        CheckAnswer::Accepted => Verdict { refusal: 0, place: 0 },
+        CheckAnswer::Accepted => Verdict {
+            refusal: 0,
+            place: 0,
+        },
         CheckAnswer::Refused(f) => of_fault(f),
     }
 }

@@ -83,8 +83,14 @@ fn listed(what: &[u8], e: Entry) {
 // The largest file is 65,024 bytes.
 fn sizes(image: &mut [u8]) {
     done(b"format 131 blocks: ", tfs_change::format(image, b"LARGE"));
-    answer(b"  create 65025 bytes: ", tfs_change::create(image, b"FILE", 65025));
-    answer(b"  create 4294967295 bytes: ", tfs_change::create(image, b"FILE", 4294967295));
+    answer(
+        b"  create 65025 bytes: ",
+        tfs_change::create(image, b"FILE", 65025),
+    );
+    answer(
+        b"  create 4294967295 bytes: ",
+        tfs_change::create(image, b"FILE", 4294967295),
+    );
     answer(b"  free bytes: ", tfs_look::free_bytes(image));
 }
 
@@ -131,9 +137,15 @@ fn full(image: &mut [u8]) {
     checked(b"  check: ", tfs_check::check(image));
     answer(b"  free bytes: ", tfs_look::free_bytes(image));
     answer(b"  create A: ", tfs_change::create(image, b"A", 0));
-    answer(b"  create Y, 65024 bytes: ", tfs_change::create(image, b"Y", 65024));
+    answer(
+        b"  create Y, 65024 bytes: ",
+        tfs_change::create(image, b"Y", 65024),
+    );
     answer(b"  create NEW: ", tfs_change::create(image, b"NEW", 0));
-    answer(b"  create NEW, 65024 bytes: ", tfs_change::create(image, b"NEW", 65024));
+    answer(
+        b"  create NEW, 65024 bytes: ",
+        tfs_change::create(image, b"NEW", 65024),
+    );
 }
 
 fn main() {
@@ -147,5 +159,8 @@ fn main() {
     text(b"format 28 blocks");
     full(&mut small);
     done(b"  remove C: ", tfs_change::remove(&mut small, b"C"));
-    answer(b"  create NEW: handle ", tfs_change::create(&mut small, b"NEW", 0));
+    answer(
+        b"  create NEW: handle ",
+        tfs_change::create(&mut small, b"NEW", 0),
+    );
 }

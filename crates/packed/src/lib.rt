@@ -8,12 +8,12 @@ ghost use Rattle.packed.specs.Hash.{times, hashStep, hashOn};
 use spans::words::be32;
 
 // A single byte; 0 where the input has ended.
-pub fn byte() -> u8
+pub fn byte() -> u32
     ensures { λ r. ⌜ r < 2 ^ 8 ⌝ }
 {
     let mut one = [0u8; 1];
     io::read_full(0, &mut one);
-    one[0]
+    wide(one[0]) as u32
 }
 
 // A number. Bytes that the input lacks count as 0.
@@ -44,20 +44,19 @@ pub fn bytes(buf: &mut [u8]) -> usize
     io::read_full(0, &mut buf[0..n])
 }
 
-// x times 1,099,511,628,211, which is 2^40 + 2^8 + 2^7 + 2^5 + 2^4 + 2 + 1, modulo 2^64.
+// x times 1,099,511,628,211, which is 2^40 + 435, modulo 2^64, by halves of x.
 fn scaled(x: u64) -> u64
     ensures { λ r. ⌜ r ≡ times x ⌝ }
 {
-    let a = std::num::wrapping_add_u64(x << 40, x << 8);
-    let b = std::num::wrapping_add_u64(x << 7, x << 5);
-    let c = std::num::wrapping_add_u64(x << 4, x << 1);
-    let d = std::num::wrapping_add_u64(a, b);
-    let e = std::num::wrapping_add_u64(c, x);
-    std::num::wrapping_add_u64(d, e)
+    let high = x / 4294967296;
+    let low = x % 4294967296;
+    let part = low * 435;
+    let top = high * 435 + low * 256 + part / 4294967296;
+    top % 4294967296 * 4294967296 + part % 4294967296
 }
 
 fn wide(b: u8) -> u64
-    ensures { λ r. ⌜ r ≡ b ⌝ }
+    ensures { λ r. ⌜ (r ≡ b) × (r < 2 ^ 8) ⌝ }
 {
     b as u64
 }

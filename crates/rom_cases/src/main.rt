@@ -94,7 +94,7 @@ fn of_content(part: &[u8]) -> Outcome {
 }
 
 // The requests by their kinds in the packed form. No table has the refusal of an unknown kind.
-fn request(kind: u8, first: u32, name: &[u8], image: &[u8]) -> Outcome {
+fn request(kind: u32, first: u32, name: &[u8], image: &[u8]) -> Outcome {
     match kind {
         17 => of_check(romfs::check(image)),
         18 => of_find(romfs::find(image, first, name)),
@@ -106,7 +106,7 @@ fn request(kind: u8, first: u32, name: &[u8], image: &[u8]) -> Outcome {
 }
 
 // Whether text is the content, and empty for the other requests.
-fn same_content(kind: u8, image: &[u8], first: u32, text: &[u8]) -> bool {
+fn same_content(kind: u32, image: &[u8], first: u32, text: &[u8]) -> bool {
     if kind != 21 {
         return text.len() == 0;
     }
@@ -161,7 +161,7 @@ fn number(before: &[u8], n: u32) {
     io::print_decimal(STDOUT_FILENO, n as u64);
 }
 
-fn outcome(before: &[u8], o: Outcome) {
+fn shown(before: &[u8], o: Outcome) {
     let values = o.values;
     number(before, o.refusal);
     number(b" at ", o.place);
@@ -174,11 +174,11 @@ fn outcome(before: &[u8], o: Outcome) {
     number(b", ", values[5]);
 }
 
-fn difference(k: u32, kind: u8, want: Outcome, got: Outcome) {
+fn difference(k: u32, kind: u32, want: Outcome, got: Outcome) {
     number(b"case ", k);
-    number(b", request ", kind as u32);
-    outcome(b": expected refusal ", want);
-    outcome(b"; got refusal ", got);
+    number(b", request ", kind);
+    shown(b": expected refusal ", want);
+    shown(b"; got refusal ", got);
     text(b"\n");
 }
 
@@ -190,7 +190,7 @@ fn other(k: u32, what: &[u8]) {
 // ---- cases
 
 // Holds what a request gave against what the input has.
-fn compare(k: u32, kind: u8, first: u32, image: &[u8], buf: &[u8], got: Outcome) -> bool {
+fn compare(k: u32, kind: u32, first: u32, image: &[u8], buf: &[u8], got: Outcome) -> bool {
     let want = expected();
     let mut space = io::buffer();
     let n = packed::bytes(&mut space);

@@ -76,7 +76,14 @@ fn of_entry(e: Entry) -> Outcome {
 }
 
 // The requests by their kinds in the packed form. No table has the refusal of an unknown kind.
-fn request(kind: u8, first: u32, second: u32, name: &[u8], buf: &mut [u8], image: &mut [u8]) -> Outcome {
+fn request(
+    kind: u32,
+    first: u32,
+    second: u32,
+    name: &[u8],
+    buf: &mut [u8],
+    image: &mut [u8],
+) -> Outcome {
     match kind {
         1 => of_checked(tfs_check::check(image)),
         2 => of_done(tfs_change::format(image, name)),
@@ -101,7 +108,7 @@ fn name_length(e: Entry) -> usize {
 }
 
 // Whether text is the name that a slot's listing has, and empty for the other requests.
-fn same_name(kind: u8, image: &[u8], slot: u32, text: &[u8]) -> bool {
+fn same_name(kind: u32, image: &[u8], slot: u32, text: &[u8]) -> bool {
     if kind != 8 {
         return text.len() == 0;
     }
@@ -160,7 +167,7 @@ fn number(before: &[u8], n: u32) {
     io::print_decimal(STDOUT_FILENO, n as u64);
 }
 
-fn outcome(before: &[u8], o: Outcome) {
+fn shown(before: &[u8], o: Outcome) {
     let values = o.values;
     number(before, o.refusal);
     number(b" at ", o.place);
@@ -170,11 +177,11 @@ fn outcome(before: &[u8], o: Outcome) {
     number(b", ", values[2]);
 }
 
-fn difference(k: u32, kind: u8, want: Outcome, got: Outcome) {
+fn difference(k: u32, kind: u32, want: Outcome, got: Outcome) {
     number(b"case ", k);
-    number(b", request ", kind as u32);
-    outcome(b": expected refusal ", want);
-    outcome(b"; got refusal ", got);
+    number(b", request ", kind);
+    shown(b": expected refusal ", want);
+    shown(b"; got refusal ", got);
     text(b"\n");
 }
 
@@ -186,7 +193,7 @@ fn other(k: u32, what: &[u8]) {
 // ---- cases
 
 // Holds what a request gave against what the input has.
-fn compare(k: u32, kind: u8, first: u32, image: &[u8], buf: &[u8], got: Outcome) -> bool {
+fn compare(k: u32, kind: u32, first: u32, image: &[u8], buf: &[u8], got: Outcome) -> bool {
     let want = expected();
     let mut space = io::buffer();
     let n = packed::bytes(&mut space);
@@ -214,7 +221,14 @@ fn case(k: u32, name: &mut [u8], buf: &mut [u8], image: &mut [u8]) -> bool {
     let a = packed::bytes(name);
     let b = packed::bytes(buf);
     let c = packed::bytes(image);
-    let got = request(kind, first, second, &name[0..a], &mut buf[0..b], &mut image[0..c]);
+    let got = request(
+        kind,
+        first,
+        second,
+        &name[0..a],
+        &mut buf[0..b],
+        &mut image[0..c],
+    );
     compare(k, kind, first, &image[0..c], &buf[0..b], got)
 }
 
