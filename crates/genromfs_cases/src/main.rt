@@ -142,9 +142,6 @@ fn difference(k: u32, what: &[u8], want: u32, got: u32) -> bool {
 fn step(image: &[u8], from: Place) -> Place {
     let mut space = io::buffer();
     let n = packed::bytes(&mut space);
-    if 4096 < n {
-        return refused(1000);
-    }
     if from.refusal != 0 {
         return from;
     }
