@@ -1,11 +1,11 @@
 // Runs packed test cases, made by a second program, through the romfs requests, and compares refusal, place, values, content, and
 // the hash of the image. One line for each case that differs, then the counts.
 use libc::STDOUT_FILENO;
-use romfs::CheckAnswer;
 use romfs::ContentAnswer;
 use romfs::EntryAnswer;
-use romfs::Fault;
 use romfs::FindAnswer;
+use romfs_check::CheckAnswer;
+use romfs_check::Fault;
 
 // A refusal with its place, or values.
 struct Outcome {

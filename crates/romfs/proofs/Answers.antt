@@ -2,7 +2,7 @@
 use Prim.Native.Nat.{ℕ, zero, suc, _+_, _-_, _≤_, _<_}
 use mathlib.Core.Path.{_≡_, refl, sym, ap, subst, _∙_}
 use mathlib.Core.Logic.{_≢_}
-use mathlib.Core.Bool.{Bool, true, false, not, cond, _&&_, _||_}
+use mathlib.Core.Bool.{Bool, true, false}
 use mathlib.Core.List.{List, []}
 use native.Mathlib.Omega.{arith}
 use native.Mathlib.Nat.{add-sub-cancel-left}
@@ -13,33 +13,34 @@ use lib.Dec.{eqb}
 use Rattle.lists.specs.Test.{sameList}
 use Rattle.lists.specs.Part.{part}
 use Rattle.romfs_rules.specs.Layout.{fullSize, pad16, firstRoot, nameLength, kind, executable, next, info, size, name, contentAt, afterName, hasData}
-use Rattle.romfs_rules.specs.Rules.{Verdict, accepted, refused}
+use Rattle.romfs_rules.specs.Rules.{Verdict, accepted}
 use Rattle.romfs_rules.specs.Reached.{along, IsReached}
 use Rattle.romfs_rules.specs.Check.{isReached, check}
 use Rattle.romfs_rules.specs.Answers as answers
 use Rattle.romfs_rules.specs.Answers.{Answer, granted, denied, checked, firstOf, matchFrom, matchIn, isDirectory, found, Entry, entryAt, described, measured, partOf}
 use Rattle.romfs_rules.specs.Walked.{volume-of, sound}
 use Rattle.romfs_rules.specs.Theorems.{check-parts}
-use Rattle.romfs_rules.specs.Given.{first-info, dir-is, Content}
-use Rattle.romfs.specs.Known.{Walked}
-use Rattle.romfs.specs.Told.{toldFault, toldUnsound}
-use Rattle.romfs.specs.declared.Fault.{Fault}
-use Rattle.romfs.specs.declared.Fault.the-variants as fault
-use Rattle.romfs.proofs.Laws as laws
+use Rattle.romfs_rules.specs.Given.{Content}
+use Rattle.romfs_check.specs.Known.{Walked}
+use Rattle.romfs_check.specs.Told.{toldFault}
+use Rattle.romfs.specs.Told.{toldUnsound}
+use Rattle.romfs_check.specs.declared.Fault.{Fault}
+use Rattle.romfs_check.specs.declared.Fault.the-variants as fault
+use Rattle.romfs_check.specs.Facts.{length-of, whole-volume, reach-room, sound-next}
 
 -- ---- after the check
 pub long : (s : List ℕ) → check s ≡ accepted → 32 ≤ length s
-long s e = laws.length-of s (volume-of s (check-parts s e .0))
+long s e = length-of s (volume-of s (check-parts s e .0))
 
 pub walked-of : (s : List ℕ) (full : ℕ) → check s ≡ accepted → full ≡ fullSize s → full < 4294967296 → Walked s full
 walked-of s full e f h =
     let parts = check-parts s e in
     let v = volume-of s (parts .0) in
-    record { whole = laws.whole-volume s full v f h; volume = v; walked = parts .1 }
+    record { whole = whole-volume s full v f h; volume = v; walked = parts .1 }
 
 -- a header's 16 bytes lie in the image
 pub in-image : (s : List ℕ) (full : ℕ) (w : Walked s full) (p : ℕ) → IsReached s p → p + 16 ≤ length s
-in-image s full w p r = omega (arith, laws.reach-room s full w p r, w .whole .inside)
+in-image s full w p r = omega (arith, reach-room s full w p r, w .whole .inside)
 
 module _ {A : Type 0} where
   pub unsound : (x : Fault) (v : Verdict) (a : Answer A) → toldFault x ≡ v → toldUnsound {A = A} x ≡ checked v a
@@ -105,11 +106,11 @@ module _ (s : List ℕ) (full : ℕ) (w : Walked s full) (p : ℕ) (r : IsReache
   on-reached q e z = subst (IsReached s) (sym e) (record { bound = r .bound; depth = r .depth; reached = along (r .reached) (λ y. z (e ∙ y)) })
 
   pub on-further : (q : ℕ) → q ≡ next s p → (q ≡ 0 → ⊥) → p < q
-  on-further q e z = laws.sound-next s (r .bound) (r .depth) p q (sound s (w .volume) (w .walked) (r .reached)) e z .0
+  on-further q e z = sound-next s (r .bound) (r .depth) p q (sound s (w .volume) (w .walked) (r .reached)) e z .0
 
   module _ (want : List ℕ) (first : ℕ) (m : Match s want full first p) where
     some-fuel : 0 < m .fuel
-    some-fuel = omega (arith, m .enough, laws.reach-room s full w p r)
+    some-fuel = omega (arith, m .enough, reach-room s full w p r)
 
     pub match-here : sameList (name s p) want ≡ true → p ≡ matchFrom s want full first
     match-here t = sym (m .same ∙ match-yes s want (m .fuel) p some-fuel t)

@@ -2,14 +2,14 @@
 ghost use mathlib.Core.Path.{_≡_};
 ghost use mathlib.Core.Bool.{not, cond, _&&_, _||_};
 ghost use lib.Dec.{leb, ltb, eqb};
-ghost use Prim.Native.Nat.{_+_, _*_, _-_, _/_, _%_, _≤_, _<_};
+ghost use Prim.Native.Nat.{_+_, _*_, _/_, _%_, _≤_, _<_};
 ghost use lib.ListN.{length};
 ghost use Rattle.lists.specs.Test.{sameList};
 ghost use Rattle.lists.specs.Word.{wordOf, word};
 ghost use Rattle.lists.specs.Part.{part};
 ghost use Rattle.romfs_rules.specs.Layout.{pad16, nameLength, fullSize, firstRoot, kind, executable, next, info, size, endOf, isDots, descends, hasData, wordSum};
 ghost use Rattle.romfs_rules.specs.Rules.{overBound, badName, badSum, badInfo, badSize, badHeader};
-ghost use Rattle.romfs_headers.specs.Known.{Whole, Head, Reads};
+ghost use Rattle.romfs_headers.specs.Known.{Whole, Head, stepOf};
 
 fn word_of(a: u8, b: u8, c: u8, d: u8) -> u32
     ensures { λ r. ⌜ r ≡ wordOf a b c d ⌝ }
@@ -317,7 +317,7 @@ pub enum Step {
 // left is how many lists may be below the header's own.
 pub fn read_entry(image: &[u8], full: usize, bound: usize, left: usize, p: usize) -> Step
     requires { ⌜ Whole (now image) full × (p < bound) × (bound ≤ full) × (left ≤ 7) ⌝ }
-    ensures { λ r. ⌜ Reads (now (image .entry)) bound left p r ⌝ }
+    ensures { λ r. ⌜ r ≡ stepOf (now (image .entry)) bound left p ⌝ }
 {
     if bound < p + 32 {
         return Step::Broken(26);

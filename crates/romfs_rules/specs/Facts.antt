@@ -1,15 +1,15 @@
 -- What a sound header gives: its end, its next and its first header lie where the nesting has them.
-use Prim.Native.Nat.{ℕ, zero, suc, _+_, _*_, _-_, _/_, _%_, _≤_, _<_}
-use mathlib.Core.Path.{_≡_, refl, sym, ap, _∙_}
-use mathlib.Core.Logic.{_≢_, _⊎_, inl, inr}
+use Prim.Native.Nat.{ℕ, _+_, _%_, _≤_, _<_}
+use mathlib.Core.Path.{_≡_, refl}
+use mathlib.Core.Logic.{_≢_}
 use mathlib.Core.Bool.{Bool, true, false, not, cond, _&&_, _||_}
 use mathlib.Core.List.{List}
 use native.Mathlib.Omega.{arith}
 use native.Mathlib.Decide.{ℕ-discrete}
-use borrow.Author.Tests.{ltb-false, leb-false, leb-true, eq-eqb, ne-eqb, eqb-true, eqb-false, lt-leb}
+use borrow.Author.Tests.{ltb-false, leb-false, eq-eqb, ne-eqb}
 use lib.Dec.{leb, ltb, eqb}
-use Rattle.romfs_rules.specs.Layout.{fullSize, nameLength, afterName, next, info, size, contentAt, endOf, own, descends, hasList}
-use Rattle.romfs_rules.specs.Rules.{Verdict, accepted, refused, overBound, badHeader, badNext, badFirst, badNesting, tooDeep, fault, badName, badSum, badInfo, badSize}
+use Rattle.romfs_rules.specs.Layout.{afterName, next, info, contentAt, endOf, own, descends, hasList}
+use Rattle.romfs_rules.specs.Rules.{accepted, refused, overBound, badHeader, badNext, badFirst, badNesting, tooDeep, fault, badName, badSum, badInfo, badSize}
 use Rattle.romfs_rules.specs.Reached.{Sound}
 
 -- ---- Booleans

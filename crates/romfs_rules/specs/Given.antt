@@ -1,22 +1,21 @@
 -- What an accepted image gives to the requests: where a list begins, and where a content lies.
-use Prim.Native.Nat.{ℕ, zero, suc, _+_, _*_, _-_, _/_, _≤_, _<_}
-use mathlib.Core.Path.{_≡_, refl, sym, ap, subst, _∙_}
+use Prim.Native.Nat.{ℕ, suc, _+_, _≤_}
+use mathlib.Core.Path.{_≡_, refl, sym, subst, _∙_}
 use mathlib.Core.Logic.{_≢_, ⊎-elim}
-use mathlib.Core.Bool.{Bool, true, false, not, cond, _&&_, _||_}
+use mathlib.Core.Bool.{Bool, true, false, not, cond, _&&_}
 use mathlib.Core.List.{List}
 use native.Mathlib.Omega.{arith}
 use native.Mathlib.Decide.{ℕ-discrete}
 use borrow.Author.Tests.{eq-eqb, ne-eqb, eqb-true}
-use lib.ListN.{length}
 use lib.Dec.{eqb}
 use Rattle.romfs_rules.specs.Layout.{fullSize, firstRoot, kind, info, size, own, contentAt, endOf, isDots, descends, hasData}
 use Rattle.romfs_rules.specs.Rules.{Verdict, accepted, refused}
-use Rattle.romfs_rules.specs.Reached.{Reached, root, along, inside, IsReached, Sound, Linked, Accepted}
+use Rattle.romfs_rules.specs.Reached.{root, inside, IsReached, Sound}
 use Rattle.romfs_rules.specs.Check.{isReached, check}
-use Rattle.romfs_rules.specs.Answers.{Answer, granted, denied, checked, firstOf, isDirectory, measured, contentLength}
-use Rattle.romfs_rules.specs.Facts.{and-yes-l, and-yes-r, true-false, ends}
+use Rattle.romfs_rules.specs.Answers.{granted, denied, checked, firstOf, isDirectory, measured, contentLength}
+use Rattle.romfs_rules.specs.Facts.{and-yes-l, and-yes-r, ends}
 use Rattle.romfs_rules.specs.Lowest.{yes-no}
-use Rattle.romfs_rules.specs.Walked.{volume-of, reached-in, full-to}
+use Rattle.romfs_rules.specs.Walked.{volume-of, reached-in}
 use Rattle.romfs_rules.specs.Seek.{is-reached}
 use Rattle.romfs_rules.specs.Theorems.{check-accepted, check-parts}
 

@@ -11,4 +11,3 @@ pub mod Seek
 pub mod Links
 pub mod Theorems
 pub mod Given
-pub mod Example

@@ -1,23 +1,23 @@
 -- Rule 29: the lowest reached header with a bad link is the first that the walk meets.
-use Prim.Native.Nat.{ℕ, zero, suc, _+_, _-_, _≤_, _<_}
-use mathlib.Core.Path.{_≡_, refl, sym, ap, subst, _∙_}
-use mathlib.Core.Logic.{_≢_, _⊎_, inl, inr, ⊎-elim, _↔_}
+use Prim.Native.Nat.{ℕ, _-_, _<_}
+use mathlib.Core.Path.{_≡_, refl, sym, ap, _∙_}
+use mathlib.Core.Logic.{_≢_, ⊎-elim}
 use mathlib.Core.Bool.{Bool, true, false, not, cond, _&&_, _||_}
 use mathlib.Core.List.{List}
 use native.Mathlib.Omega.{arith}
-use native.Mathlib.Decide.{ℕ-discrete, decLt}
+use native.Mathlib.Decide.{ℕ-discrete}
 use borrow.Author.Tests.{eq-eqb, ne-eqb, eqb-true, eqb-false, lt-ltb, le-ltb, ltb-true, ltb-false, not-false, not-true}
 use lib.Dec.{T, ltb, eqb}
 use Rattle.lists.specs.Test.{of-true, to-true, no-false}
 use Rattle.lists.specs.Least.{least, least-is, least-all, least-hit, least-none, least-below}
-use Rattle.romfs_rules.specs.Layout.{fullSize, firstRoot, kind, next, info, own, isDots, hasList}
+use Rattle.romfs_rules.specs.Layout.{fullSize, firstRoot, kind, info, isDots}
 use Rattle.romfs_rules.specs.Rules.{Verdict, accepted, refused}
-use Rattle.romfs_rules.specs.Reached.{Reached, root, along, inside, IsReached, Sound, Linked}
-use Rattle.romfs_rules.specs.Check.{visitList, visitEntry, visitAll, walk, isReached, badLink, links}
+use Rattle.romfs_rules.specs.Reached.{Reached, root, along, inside, IsReached, Linked}
+use Rattle.romfs_rules.specs.Check.{visitAll, walk, isReached, badLink, links}
 use Rattle.romfs_rules.specs.Facts.{or-no-l, or-no-r, and-no, and-yes-l, and-yes-r, both, true-false, list-descends, list-first}
-use Rattle.romfs_rules.specs.Visit.{From, lies, all, not-both}
+use Rattle.romfs_rules.specs.Visit.{not-both}
 use Rattle.romfs_rules.specs.Lowest.{Lowest, lowest, Out, fine, broken, out, yes-no}
-use Rattle.romfs_rules.specs.Walked.{Volume, root-in, has-root, met, Met, met-reached, all-met, sound, visit-none, visit-root, reached-in}
+use Rattle.romfs_rules.specs.Walked.{Volume, root-in, has-root, met, all-met, sound, visit-none, visit-root, reached-in}
 use Rattle.romfs_rules.specs.Seek.{is-reached, reached-is}
 
 -- ---- a bad link is one that is not linked

@@ -1,17 +1,17 @@
 -- A refused walk: its place is the lowest header that the test refuses.
 use Prim.Native.Nat.{ℕ, zero, suc, _+_, _-_, _≤_, _<_}
-use mathlib.Core.Path.{_≡_, refl, sym, ap, subst, _∙_}
+use mathlib.Core.Path.{_≡_, refl, sym, subst, _∙_}
 use mathlib.Core.Logic.{_≢_, _⊎_, inl, inr, ⊎-elim}
-use mathlib.Core.Bool.{Bool, true, false, cond}
+use mathlib.Core.Bool.{Bool, true, false}
 use mathlib.Core.List.{List}
 use native.Mathlib.Omega.{arith}
 use native.Mathlib.Decide.{ℕ-discrete}
 use native.Mathlib.Numerals.{sub-one}
-use Rattle.romfs_rules.specs.Layout.{next, info, own, endOf, hasList}
+use Rattle.romfs_rules.specs.Layout.{next, info, own, hasList}
 use Rattle.romfs_rules.specs.Rules.{Verdict, accepted, refused}
 use Rattle.romfs_rules.specs.Reached.{Sound}
 use Rattle.romfs_rules.specs.Check.{visitList, visitEntry}
-use Rattle.romfs_rules.specs.Facts.{room, next-from, next-to, own-from, own-to, own-next, first-from, first-to, depth-to, true-false}
+use Rattle.romfs_rules.specs.Facts.{room, next-from, next-to, own-next, first-to, depth-to, true-false}
 use Rattle.romfs_rules.specs.Visit.{From, here, along, inside, Cases, same, later, below, cases, lies, not-both, list-refused, list-last, list-next, listOf, entry-refused, entry-leaf, entry-list, all}
 
 pub data Out (v : Verdict) : Type 0 where

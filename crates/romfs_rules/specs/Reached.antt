@@ -2,7 +2,7 @@
 use Prim.Native.Nat.{ℕ, suc}
 use mathlib.Core.Path.{_≡_}
 use mathlib.Core.Logic.{_≢_}
-use mathlib.Core.Bool.{Bool, true, false}
+use mathlib.Core.Bool.{true, false}
 use mathlib.Core.List.{List}
 use Rattle.romfs_rules.specs.Layout.{fullSize, firstRoot, kind, next, info, own, isDots, descends}
 use Rattle.romfs_rules.specs.Rules.{short21, magic22, size23, sum24, name25, badHeader, badNesting, tooDeep}

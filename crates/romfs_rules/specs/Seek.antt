@@ -1,17 +1,17 @@
 -- The search down one path finds exactly the reached headers.
-use Prim.Native.Nat.{ℕ, zero, suc, _+_, _-_, _≤_, _<_}
+use Prim.Native.Nat.{ℕ, zero, suc, _-_, _≤_, _<_}
 use mathlib.Core.Path.{_≡_, refl, sym, ap, subst, _∙_}
-use mathlib.Core.Logic.{_≢_, _⊎_, inl, inr, ⊎-elim, _↔_}
-use mathlib.Core.Bool.{Bool, true, false, not, cond, _&&_}
+use mathlib.Core.Logic.{_≢_, ⊎-elim, _↔_}
+use mathlib.Core.Bool.{Bool, true, false, not, _&&_}
 use mathlib.Core.List.{List}
 use native.Mathlib.Omega.{arith}
 use native.Mathlib.Decide.{ℕ-discrete}
 use native.Mathlib.Numerals.{sub-one}
-use borrow.Author.Tests.{eq-eqb, ne-eqb, le-leb, lt-leb, leb-true, not-true}
+use borrow.Author.Tests.{eq-eqb, ne-eqb, le-leb, lt-leb, leb-true}
 use lib.Dec.{leb, eqb}
 use Rattle.romfs_rules.specs.Layout.{fullSize, firstRoot, next, info, own, descends, hasList}
-use Rattle.romfs_rules.specs.Rules.{Verdict, accepted, refused}
-use Rattle.romfs_rules.specs.Reached.{Reached, root, along, inside, IsReached, Sound}
+use Rattle.romfs_rules.specs.Rules.{accepted}
+use Rattle.romfs_rules.specs.Reached.{root, along, inside, IsReached, Sound}
 use Rattle.romfs_rules.specs.Check.{walk, leads, towards, seek, isReached}
 use Rattle.romfs_rules.specs.Facts.{both, and-yes-l, and-yes-r, true-false, not-eqb, has-list, list-descends, list-first, room, next-from, next-to, own-next, first-from, first-to}
 use Rattle.romfs_rules.specs.Visit.{From, Cases, same, later, below, cases, lies}

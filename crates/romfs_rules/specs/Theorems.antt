@@ -1,23 +1,19 @@
 -- What the check says: it accepts exactly the accepted images, and each refusal is given exactly when the rules say.
-use Prim.Native.Nat.{ℕ, zero, suc, _+_, _-_, _≤_, _<_}
+use Prim.Native.Nat.{ℕ, zero, suc, _-_, _<_}
 use mathlib.Core.Path.{_≡_, refl, sym, ap, subst, _∙_}
-use mathlib.Core.Logic.{_≢_, _⊎_, inl, inr, ⊎-elim, _↔_}
-use mathlib.Core.Bool.{Bool, true, false, not, cond, _&&_}
+use mathlib.Core.Logic.{_≢_, ⊎-elim, _↔_}
+use mathlib.Core.Bool.{true, false}
 use mathlib.Core.List.{List}
 use native.Mathlib.Omega.{arith}
 use native.Mathlib.Decide.{ℕ-discrete, decLt}
-use borrow.Author.Tests.{ltb-true, ltb-false}
-use lib.Dec.{T, ltb, eqb}
-use Rattle.lists.specs.Test.{of-true, to-true, no-false}
-use Rattle.lists.specs.Least.{least, least-is, least-all, least-hit, least-none, least-below}
 use Rattle.romfs_rules.specs.Layout.{fullSize, firstRoot, next, info, own, hasList}
 use Rattle.romfs_rules.specs.Rules.{Verdict, accepted, refused, short21, magic22, size23, sum24, name25, fault}
-use Rattle.romfs_rules.specs.Reached.{Reached, root, along, inside, IsReached, Sound, Linked, Accepted}
-use Rattle.romfs_rules.specs.Check.{andThen, visitList, visitEntry, visitAll, walk, isReached, badLink, links, volume, check}
-use Rattle.romfs_rules.specs.Facts.{room, next-from, next-to, own-next, first-from, first-to, true-false, fault-sound, sound-fault, fault-place, list-descends, list-first}
-use Rattle.romfs_rules.specs.Visit.{From, Cases, same, later, below, cases, lies, not-both}
-use Rattle.romfs_rules.specs.Lowest.{Lowest, lowest, Out, fine, broken, out, yes-no}
-use Rattle.romfs_rules.specs.Walked.{Volume, volume-of, of-volume, root-in, has-root, met, meet, Met, met-reached, all-met, sound, visit-none, visit-root, reached-in}
+use Rattle.romfs_rules.specs.Reached.{Reached, IsReached, Sound, Linked, Accepted}
+use Rattle.romfs_rules.specs.Check.{andThen, walk, isReached, badLink, links, volume, check}
+use Rattle.romfs_rules.specs.Facts.{room, next-from, next-to, own-next, first-from, first-to, true-false, fault-sound, sound-fault, fault-place}
+use Rattle.romfs_rules.specs.Visit.{From, Cases, same, later, below, cases, lies, not-both, then-accepted}
+use Rattle.romfs_rules.specs.Lowest.{lowest, Out, fine, broken, out, yes-no}
+use Rattle.romfs_rules.specs.Walked.{Volume, volume-of, of-volume, root-in, met, Met, met-reached, all-met, sound, visit-none, visit-root, reached-in}
 use Rattle.romfs_rules.specs.Seek.{is-reached, reached-is}
 use Rattle.romfs_rules.specs.Links.{linked-of, of-linked, links-none, links-at, links-clear, LowestLink, links-lowest}
 
@@ -159,10 +155,6 @@ module _ (s : List ℕ) (v : Volume s) (w : walk s ≡ accepted) where
   )
 
 -- ---- the check
-then-accepted : (a b : Verdict) → andThen a b ≡ accepted → (a ≡ accepted) × (b ≡ accepted)
-then-accepted accepted b e = (refl, e)
-then-accepted (refused n p) b e = absurd (not-both e refl)
-
 pub check-parts : (s : List ℕ) → check s ≡ accepted → (volume s ≡ accepted) × (walk s ≡ accepted) × (links s ≡ accepted)
 unfolding check
 check-parts s e =

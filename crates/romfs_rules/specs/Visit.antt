@@ -1,19 +1,17 @@
 -- The walk goes through the headers that sound headers lead to, in rising order.
 use Prim.Native.Nat.{ℕ, zero, suc, _+_, _-_, _≤_, _<_}
-use mathlib.Core.Path.{_≡_, refl, sym, ap, subst, _∙_}
-use mathlib.Core.Logic.{_≢_, _⊎_, inl, inr, ⊎-elim}
-use mathlib.Core.Bool.{Bool, true, false, cond}
+use mathlib.Core.Path.{_≡_, refl, sym, _∙_}
+use mathlib.Core.Logic.{_≢_, _⊎_, inl, inr}
+use mathlib.Core.Bool.{true, false}
 use mathlib.Core.List.{List}
 use native.Mathlib.Omega.{arith}
-use native.Mathlib.Decide.{ℕ-discrete}
 use native.Mathlib.Numerals.{sub-one}
 use borrow.Author.Tests.{eq-eqb, ne-eqb}
-use lib.Dec.{eqb}
-use Rattle.romfs_rules.specs.Layout.{next, info, own, endOf, hasList}
+use Rattle.romfs_rules.specs.Layout.{next, info, own, hasList}
 use Rattle.romfs_rules.specs.Rules.{Verdict, accepted, refused}
 use Rattle.romfs_rules.specs.Reached.{Sound}
 use Rattle.romfs_rules.specs.Check.{andThen, visitList, visitEntry}
-use Rattle.romfs_rules.specs.Facts.{room, ends, next-from, next-to, own-from, own-to, own-next, first-from, first-to, depth-to, true-false}
+use Rattle.romfs_rules.specs.Facts.{room, next-from, next-to, own-to, first-from, first-to, depth-to}
 
 -- ---- headers that sound ones lead to, from p on
 pub data From (s : List ℕ) (p bound depth : ℕ) : ℕ → ℕ → ℕ → Type 0 where
@@ -53,7 +51,7 @@ lies {s} h (inside {q = q} {b = b} {d = d} f o t) =
 pub not-both : {n p : ℕ} {v : Verdict} → v ≡ accepted → v ≡ refused n p → ⊥
 not-both e f = let z : _≡_ {A = ℕ} 0 1 = cc in omega arith
 
-then-accepted : (a b : Verdict) → andThen a b ≡ accepted → (a ≡ accepted) × (b ≡ accepted)
+pub then-accepted : (a b : Verdict) → andThen a b ≡ accepted → (a ≡ accepted) × (b ≡ accepted)
 then-accepted accepted b e = (refl, e)
 then-accepted (refused n p) b e = absurd (not-both e refl)
 

@@ -1,22 +1,20 @@
 -- On an accepted walk every reached header is sound, and the reached headers are those that sound ones lead to.
-use Prim.Native.Nat.{ℕ, zero, suc, _+_, _*_, _-_, _/_, _%_, _≤_, _<_}
-use mathlib.Core.Path.{_≡_, refl, sym, ap, subst, _∙_}
-use mathlib.Core.Logic.{_≢_, _⊎_, inl, inr, ⊎-elim}
+use Prim.Native.Nat.{ℕ, _+_, _-_, _%_, _≤_, _<_}
+use mathlib.Core.Path.{_≡_, refl, sym, _∙_}
+use mathlib.Core.Logic.{_≢_}
 use mathlib.Core.Bool.{Bool, true, false, not, cond, _||_}
 use mathlib.Core.List.{List}
 use native.Mathlib.Omega.{arith}
-use native.Mathlib.Decide.{ℕ-discrete}
 use borrow.Author.Tests.{eq-eqb, ne-eqb, ltb-true, ltb-false, eqb-true, not-false}
 use lib.ListN.{length}
 use lib.Dec.{ltb, eqb}
-use Rattle.romfs_rules.specs.Layout.{fullSize, firstRoot, afterName, nameLength, nameEnds, next, info, own, hasList}
+use Rattle.romfs_rules.specs.Layout.{fullSize, firstRoot, afterName, nameLength, nameEnds}
 use Rattle.romfs_rules.specs.Rules.{Verdict, accepted, refused, short21, magic22, size23, sum24, name25, fault}
-use Rattle.romfs_rules.specs.Reached.{Reached, root, along, inside, IsReached, Sound}
+use Rattle.romfs_rules.specs.Reached.{Reached, root, along, inside, Sound}
 use Rattle.romfs_rules.specs.Check.{visitList, visitEntry, visitAll, walk, volume}
-use Rattle.romfs_rules.specs.Facts.{or-no-l, or-no-r, has-list, list-descends, list-first, fault-sound, sound-fault, fault-place, room, ends, next-from}
+use Rattle.romfs_rules.specs.Facts.{or-no-l, or-no-r, has-list, list-descends, list-first, fault-sound, room, ends}
 use Rattle.romfs_rules.specs.Visit as visit
 use Rattle.romfs_rules.specs.Visit.{From, lies, all, not-both}
-use Rattle.romfs_rules.specs.Lowest.{Lowest, lowest, Out, fine, broken, out}
 
 -- ---- 21 to 25
 -- none of 21 to 25 holds

@@ -10,12 +10,17 @@ use Rattle.lists.specs.Test.{to-false}
 use Rattle.lists.specs.Least.{least}
 use Rattle.lists.specs.Sum.{sum}
 use Rattle.lists.specs.Name.{zeros, zeroAt, firstZero, upToZero}
-use Rattle.lists.specs.Word.{word}
+use Rattle.lists.specs.Word.{word, words}
 use Rattle.lists.specs.Bits.{bitOf, withBit}
 use Rattle.lists.specs.Part.{part, withPart, length-with}
 use Rattle.tfs_rules.specs.Layout.{need, blocks, block, setBlock, mapBit, setBit, slot, setSlot, slotInode, slotName, slotFree, nameFormed, slotUsed, sameName, entry, inodeSize, inodeNumber, inodeBlock, labelAllowed, nameAllowed}
 use Rattle.tfs_rules.specs.View.{inodeAt, viewN, view, free, used, inode, name, size, number, slotOf, slotWith, freeSlot, freeBlocks}
 use Rattle.tfs_rules.specs.Check.{consistent, tooShort, badMagic, badLabel, repeats, badSlot, badNumber, badInode, fileClaims, claimsTo, claims, checkView, check}
+use Rattle.romfs_rules.specs.Layout.{fullSize, nameLength, nameEnds, afterName, firstRoot, kind, executable, next, info, contentAt, endOf, own, isDots, descends, hasList, hasData, wordSum}
+use Rattle.romfs_rules.specs.Layout as romfs
+use Rattle.romfs_rules.specs.Rules.{short21, magic22, size23, sum24, name25, overBound, badName, badSum, badInfo, badSize, badHeader, badNext, badFirst, badNesting, tooDeep, fault}
+use Rattle.romfs_rules.specs.Rules as rom
+use Rattle.romfs_rules.specs.Check.{visitList, visitEntry, visitAll, walk, leads, towards, seek, isReached, badLink, links, volume, check as romCheck}
 use Rattle.tfs_rules.specs.Requests.{Answer, done, value, unused, file, refused, Outcome, Store, storeAll, formatStores, format, freeFrom, chosen, placeStores, createStores, createView, stored, create, counted, transferView, read, write, freeAnswer}
 
 -- the names, as bytes
@@ -32,6 +37,15 @@ code (value x) = 1 ∷ x ∷ []
 code unused = 2 ∷ []
 code (file nm i z) = 3 ∷ i ∷ z ∷ nm
 code (refused num p) = 4 ∷ num ∷ p ∷ []
+
+-- romfs, 64 bytes: volume "V", empty regular file "a"
+abbrev ROM : List ℕ
+ROM = words (0x2D726F6D ∷ 0x3166732D ∷ 0x40 ∷ 0x4B271D26 ∷ 0x56000000 ∷ 0 ∷ 0 ∷ 0 ∷ 0x02 ∷ 0 ∷ 0 ∷ 0x9EFFFFFE ∷ 0x61000000 ∷ 0 ∷ 0 ∷ 0 ∷ [])
+
+-- a verdict on a romfs image as a row
+abbrev pub romCode : rom.Verdict → List ℕ
+romCode rom.accepted = 0 ∷ []
+romCode (rom.refused num p) = 4 ∷ num ∷ p ∷ []
 
 -- what the definitions give: an image of 128 blocks, one of 131 and one of 130, a buffer to read into and one to write from
 unfoldable pub computed : (img a b into from : List ℕ) → List (List ℕ)
@@ -62,6 +76,8 @@ computed img a b into from =
     -- create 65,024 in an empty volume, N = 131 and N = 130
     ∷ code (create 512 (format 512 a PUMP .image) TIMING 65024 .answer)
     ∷ code (create 512 (format 512 b PUMP .image) TIMING 65024 .answer)
+    -- the romfs image is accepted
+    ∷ romCode (romCheck ROM)
     ∷ []
 
 -- the same rows written out
@@ -86,6 +102,7 @@ expected =
     ∷ (1 ∷ [])
     ∷ code (value 3)
     ∷ code (refused 12 0)
+    ∷ romCode rom.accepted
     ∷ []
 
 -- ---- the images after format and create
@@ -203,6 +220,11 @@ module _ {img : List ℕ} (g : Image 128 img) where
   write-made o k buf e = ap (λ (c : Outcome). write 512 (c .image) 3 o buf .answer) is-made ∙ write-is filled 3 o k buf e
 
 -- every row of the table at once, for any images and buffers of these lengths
+-- ---- the romfs image
+rom-accepted : romCheck ROM ≡ rom.accepted
+unfolding least word part fullSize romfs.zeroAt nameLength nameEnds afterName firstRoot kind executable next info romfs.size romfs.name contentAt endOf own isDots descends hasList hasData wordSum short21 magic22 size23 sum24 name25 overBound badName badSum badInfo badSize badHeader badNext badFirst badNesting tooDeep fault visitList visitEntry visitAll walk leads towards seek isReached badLink links volume romCheck
+rom-accepted = refl
+
 pub starred : (img a b into from : List ℕ) → length img ≡ 65536 → length a ≡ 67072 → length b ≡ 66560 → length into ≡ 200 → length from ≡ 30 → computed img a b into from ≡ expected
 unfolding computed expected computing
 starred img a b into from len len-a len-b len-into len-from =
@@ -229,4 +251,5 @@ starred img a b into from len len-a len-b len-into len-from =
     ∷ (cond (mapBit (0x00 ∷ 0x00 ∷ 0x00 ∷ 0x00 ∷ 0x00 ∷ 0x00 ∷ 0x00 ∷ 0x01 ∷ zeros 504) 32) 1 0 ∷ [])
     ∷ code (created g-a refl 65024 i .answer)
     ∷ code (created g-b refl 65024 i .answer)
+    ∷ romCode (rom-accepted i)
     ∷ []

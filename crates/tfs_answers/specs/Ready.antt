@@ -16,7 +16,7 @@ use Rattle.lists.specs.Store.{storeAt}
 use Rattle.tfs_rules.specs.Layout.{slots, need, blocks, block, maxSize, inodeSize, inodeNumber}
 use Rattle.tfs_rules.specs.View.{View, view, viewN, free, used, inode, size, number, place}
 use Rattle.tfs_rules.specs.Check.{consistent, check, fileClaims}
-use Rattle.tfs_rules.specs.Consistent.{File, Owner, inodeOf, contentOf, Owns, Sound, Consistent} 
+use Rattle.tfs_rules.specs.Consistent.{File, Owner, inodeOf, contentOf, Owns, Sound, Consistent}
 use Rattle.tfs_rules.specs.Consistent as rules
 use Rattle.tfs_rules.specs.CheckMeans.{check-means, used-inode, owns-inside, need-le}
 use Rattle.tfs_rules.specs.Total.{three-blocks}
@@ -141,7 +141,7 @@ module _ (img : List ℕ) (passed : check 512 img ≡ consistent) where
         let k : i < need 512 (size v s) = omega (arith, needed) in
         let c : rules.Inside v (number v s i) = ok .sound .inside s i f k in
         let e : getD (table (inodeNumber ino) 0 (need 512 (inodeSize ino))) i 0 ≡ number v s i =
-          getD-table (inodeNumber ino) 0 (need 512 (inodeSize ino)) i 0 l ∙ ap (inodeNumber ino) (zero-add i) ∙ sym (number-is i)
+        getD-table (inodeNumber ino) 0 (need 512 (inodeSize ino)) i 0 l ∙ ap (inodeNumber ino) (zero-add i) ∙ sym (number-is i)
         in
         omega (arith, c .high, view-n 512 img, blocks-high)
 

@@ -66,15 +66,15 @@ fn write_sound(image: &mut [u8], handle: u32, offset: u32, buf: &[u8]) -> Answer
         return Answer::Refused(14);
     }
     let b = handle as usize;
-    let size = file_size(image, b);
-    if size < offset {
+    let end = file_size(image, b);
+    if end < offset {
         return Answer::Refused(15);
     }
-    let count = count_of(buf.len(), size, offset);
+    let moved = count_of(buf.len(), end, offset);
     let mut list = [0u32; 128];
     let k = file_blocks(image, b, &mut list);
-    write_runs(image, &list[1..k], offset as usize, buf, count);
-    Answer::Granted(count as u32)
+    write_runs(image, &list[1..k], offset as usize, buf, moved);
+    Answer::Granted(moved as u32)
 }
 
 // Writes the buffer into the file from the offset on, as far as the file reaches.

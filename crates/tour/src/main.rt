@@ -71,22 +71,34 @@ fn checked(c: Checked) {
 }
 
 // Writes into the file and reads it back.
-fn use_file(image: &mut [u8], handle: u32) {
-    answer(b"write 5 bytes at 10: ", tfs_transfer::write(image, handle, 10, b"hello"));
+fn use_file(image: &mut [u8; 65536], handle: u32) {
+    answer(
+        b"write 5 bytes at 10: ",
+        tfs_transfer::write(image, handle, 10, b"hello"),
+    );
     let mut back = [0u8; 5];
-    answer(b"read 5 bytes at 10: ", tfs_transfer::read(image, handle, 10, &mut back));
+    answer(
+        b"read 5 bytes at 10: ",
+        tfs_transfer::read(image, handle, 10, &mut back),
+    );
     text(b"read back: ");
     text(&back);
     text(b"\n");
-    answer(b"write at the end: ", tfs_transfer::write(image, handle, 1000, b"hello"));
-    answer(b"write past the end: ", tfs_transfer::write(image, handle, 1001, b"hello"));
+    answer(
+        b"write at the end: ",
+        tfs_transfer::write(image, handle, 1000, b"hello"),
+    );
+    answer(
+        b"write past the end: ",
+        tfs_transfer::write(image, handle, 1001, b"hello"),
+    );
     answer(b"free bytes: ", tfs_look::free_bytes(image));
+    checked(tfs_check::check(image));
 }
 
-fn damage(image: &mut [u8]) {
-    if 515 < image.len() {
-        image[515] = 7;
-    }
+fn damage(image: &mut [u8; 65536]) {
+    text(b"one byte of the map is damaged\n");
+    image[515] = 7;
     checked(tfs_check::check(image));
     answer(b"open TIMING: ", tfs_look::open(image, b"TIMING"));
 }
@@ -94,10 +106,11 @@ fn damage(image: &mut [u8]) {
 fn main() {
     let mut image = io::large_buffer();
     done(b"format PUMP: ", tfs_change::format(&mut image, b"PUMP"));
-    answer(b"create TIMING, 1000 bytes: handle ", tfs_change::create(&mut image, b"TIMING", 1000));
+    answer(
+        b"create TIMING, 1000 bytes: handle ",
+        tfs_change::create(&mut image, b"TIMING", 1000),
+    );
     answer(b"open TIMING: handle ", tfs_look::open(&image, b"TIMING"));
     use_file(&mut image, 3);
-    checked(tfs_check::check(&image));
-    text(b"one byte of the map is damaged\n");
     damage(&mut image);
 }

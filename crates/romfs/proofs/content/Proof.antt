@@ -1,12 +1,11 @@
 use Rattle.romfs_rules.specs.Answers.{partOf}
 use Rattle.romfs_rules.specs.Layout.{contentAt}
 use Rattle.romfs.specs.declared.ContentAnswer.{ContentAnswer}
-use mathlib.Core.Path.{_≡_, refl, sym, ap, _∙_}
-use native.Mathlib.Omega.{arith}
+use mathlib.Core.Path.{sym, ap, _∙_}
 use denote.Ref.{now}
-use Rattle.romfs.specs.Told.{told, toldFault, toldFind, toldEntry, toldContent}
+use Rattle.romfs.specs.Told.{toldContent}
 use Rattle.romfs.proofs.Answers as answers
-use Rattle.romfs_rules.specs.Given.{first-info, dir-is, first-reached, content-in}
+use Rattle.romfs_rules.specs.Given.{content-in}
 use borrow.Author.Needs.{needs}
 use Rattle.romfs.proofs.content.Statement.{statement}
 use Rattle.romfs.proofs.content.Tie as tie

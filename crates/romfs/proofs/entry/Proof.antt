@@ -1,6 +1,7 @@
-use mathlib.Core.Path.{_≡_, refl, sym, ap, _∙_}
+use mathlib.Core.Path.{sym, ap, _∙_}
 use denote.Ref.{now}
-use Rattle.romfs.specs.Told.{told, toldFault, toldFind, toldEntry, toldContent}
+use Rattle.romfs_check.specs.Told.{told}
+use Rattle.romfs.specs.Told.{toldEntry}
 use Rattle.romfs.proofs.Answers as answers
 use Rattle.romfs_rules.specs.Answers.{described}
 use Rattle.romfs_rules.specs.Check.{check}

@@ -1,13 +1,12 @@
-use mathlib.Core.Path.{_≡_, refl, sym, ap, _∙_}
-use native.Mathlib.Omega.{arith}
-use Rattle.romfs.proofs.Laws as laws
+use mathlib.Core.Path.{sym, _∙_}
+use Rattle.romfs_check.specs.Facts.{full-at-least}
 use Rattle.romfs.proofs.Answers as answers
-use Rattle.romfs_rules.specs.Given.{first-info, dir-is, first-reached, content-in}
+use Rattle.romfs_rules.specs.Given.{first-info, dir-is}
 use Rattle.romfs.proofs.first_of.Statement.{statement}
 use Rattle.romfs.proofs.first_of.Tie as tie
 
 first-root-requires : tie.Need-first-root-requires
-first-root-requires c κs = let w = c .before .before .pre .0 in (w .whole, laws.full-at-least _ _ (w .volume) (w .whole .is))
+first-root-requires c κs = let w = c .before .before .pre .0 in (w .whole, full-at-least _ _ (w .volume) (w .whole .is))
 
 returns : tie.Need-returns
 returns c = answers.first-none _ _ (c .before .before .if1 .taken) _ _ (c .before .first-root .ensures) (c .before .before .before .before .pre .0 .whole .is) (c .if2 .taken)

@@ -1,32 +1,47 @@
-use borrow.Author.Tests.{eq-eqb, ne-eqb, lt-ltb, le-ltb, le-leb, lt-leb, not-true, not-false}
-use mathlib.Core.Path.{_≡_, refl, sym, ap, _∙_}
-use native.Mathlib.Omega.{arith}
-use Rattle.romfs_rules.specs.Seek.{is-reached}
-use Rattle.romfs.proofs.Answers as answers
+use borrow.Author.Tests.{not-true, not-false}
 use borrow.Author.Needs.{needs}
+use mathlib.Core.Path.{_≡_, sym, _∙_}
+use mathlib.Core.Bool.{true}
+use denote.Ref.{now}
+use Rattle.romfs_rules.specs.Check.{isReached}
+use Rattle.romfs_rules.specs.Seek.{is-reached}
+use Rattle.romfs_check.specs.Known.{Walked}
+use Rattle.romfs.proofs.Answers as answers
 use Rattle.romfs.proofs.length_at.Statement.{statement}
 use Rattle.romfs.proofs.length_at.Tie as tie
+
+walked : (c : tie.After-full-size) → Walked (now (c .before .before .args .image)) (c .full-size .result)
+walked c = answers.walked-of _ _ (c .before .before .pre) (c .full-size .ensures .0) (c .full-size .ensures .1)
+
+found : (c : tie.Else1) → let a = c .before .before .before .before .args in isReached (now (a .image)) (a .at) ≡ true
+found c = sym (c .before .is-reached .ensures) ∙ not-false _ (c .if1 .left)
 
 full-size-requires : tie.Need-full-size-requires
 full-size-requires c κs = answers.long _ (c .before .pre)
 
 is-reached-requires : tie.Need-is-reached-requires
-is-reached-requires c κs = answers.walked-of _ _ (c .before .before .pre) (c .full-size .ensures .0) (c .full-size .ensures .1)
+is-reached-requires c κs = walked c
 
 returns : tie.Need-returns
 returns c = answers.measured-unreached _ _ (sym (c .before .is-reached .ensures) ∙ not-true _ (c .if1 .taken))
 
 kind-of-requires : tie.Need-kind-of-requires
-kind-of-requires c κs = answers.in-image _ _ (answers.walked-of _ _ (c .before .before .before .before .pre) (c .before .before .full-size .ensures .0) (c .before .before .full-size .ensures .1)) _ (is-reached _ _ (sym (c .before .is-reached .ensures) ∙ not-false _ (c .if1 .left)))
+kind-of-requires c κs = answers.in-image _ _ (walked (c .before .before)) _ (is-reached _ _ (found c))
 
 returns-2 : tie.Need-returns-2
-returns-2 c = answers.measured-31 _ _ (sym (c .before .before .before .before .is-reached .ensures) ∙ not-false _ (c .before .before .before .if1 .left)) _ (c .before .before .kind-of .ensures .0) (sym (c .before .has-data .ensures) ∙ not-true _ (c .if2 .taken))
+returns-2 c =
+    answers.measured-31 _ _ (found (c .before .before .before)) _ (c .before .before .kind-of .ensures .0)
+    (sym (c .before .has-data .ensures) ∙ not-true _ (c .if2 .taken))
 
 size-of-requires : tie.Need-size-of-requires
-size-of-requires c κs = answers.in-image _ _ (answers.walked-of _ _ (c .before .before .before .before .before .before .before .pre) (c .before .before .before .before .before .full-size .ensures .0) (c .before .before .before .before .before .full-size .ensures .1)) _ (is-reached _ _ (sym (c .before .before .before .before .is-reached .ensures) ∙ not-false _ (c .before .before .before .if1 .left)))
+size-of-requires c κs = answers.in-image _ _ (walked (c .before .before .before .before .before)) _ (is-reached _ _ (found (c .before .before .before)))
 
 returns-3 : tie.Need-returns-3
-returns-3 c = answers.measured-as _ _ (sym (c .before .before .before .before .before .is-reached .ensures) ∙ not-false _ (c .before .before .before .before .if1 .left)) _ (c .before .before .before .kind-of .ensures .0) (sym (c .before .before .has-data .ensures) ∙ not-false _ (c .before .if2 .left)) _ (c .size-of .ensures .0)
+returns-3 c =
+    answers.measured-as _ _ (found (c .before .before .before .before)) _ (c .before .before .before .kind-of .ensures .0)
+    (sym (c .before .before .has-data .ensures) ∙ not-false _ (c .before .if2 .left))
+    _
+    (c .size-of .ensures .0)
 
 pub length-at-spec : {M : Type 1} → statement M
 length-at-spec =

@@ -1,9 +1,9 @@
 use borrow.Author.Needs.{needs}
-use mathlib.Core.Path.{_≡_, refl, sym, ap, _∙_}
+use mathlib.Core.Path.{sym, _∙_}
 use Prim.Native.Nat.{_-_}
 use native.Mathlib.Omega.{arith}
 use Rattle.romfs_rules.specs.Reached.{IsReached}
-use Rattle.romfs.proofs.Laws as laws
+use Rattle.romfs_check.specs.Facts.{reach-room}
 use Rattle.romfs.proofs.Answers as answers
 use Rattle.romfs.proofs.match_from.Statement.{statement}
 use Rattle.romfs.proofs.match_from.Tie as tie
@@ -20,15 +20,15 @@ loop-holds c = (c .before .before .pre .1, answers.match-start _ _ _ _)
 add-name-length : tie.Need-add-name-length Inv-loop μ-loop
 add-name-length c =
     let w = c .before .before .before .pre .0 in
-    record { fits = omega (arith, laws.reach-room _ _ w _ (c .loop .inv .0), w .whole .small) }
+    record { fits = omega (arith, reach-room _ _ w _ (c .loop .inv .0), w .whole .small) }
 
 name-length-requires : tie.Need-name-length-requires Inv-loop μ-loop
-name-length-requires c κs = let w = c .before .before .before .pre .0 in (w .whole, omega (arith, laws.reach-room _ _ w _ (c .loop .inv .0)))
+name-length-requires c κs = let w = c .before .before .before .pre .0 in (w .whole, omega (arith, reach-room _ _ w _ (c .loop .inv .0)))
 
 add-name-is : tie.Need-add-name-is Inv-loop μ-loop
 add-name-is c =
     let w = c .before .before .before .before .pre .0 in
-    record { fits = omega (arith, laws.reach-room _ _ w _ (c .before .loop .inv .0), w .whole .small) }
+    record { fits = omega (arith, reach-room _ _ w _ (c .before .loop .inv .0), w .whole .small) }
 
 name-is-requires : tie.Need-name-is-requires Inv-loop μ-loop
 name-is-requires c κs = omega (arith, c .before .before .before .before .pre .0 .whole .inside, c .name-length .ensures .1)
@@ -38,7 +38,7 @@ returns c =
     let w = c .before .before .before .before .before .before .pre .0 in
     let l = c .before .before .before .loop in
     let t = answers.name-test _ _ _ _ _ (c .before .name-is .ensures) (c .before .before .name-length .ensures .0) in
-    (answers.match-here _ _ w _ (l .inv .0) _ _ (l .inv .1) (sym t ∙ c .if1 .taken), omega (arith, laws.reach-room _ _ w _ (l .inv .0), w .whole .small))
+    (answers.match-here _ _ w _ (l .inv .0) _ _ (l .inv .1) (sym t ∙ c .if1 .taken), omega (arith, reach-room _ _ w _ (l .inv .0), w .whole .small))
 
 next-of-requires : tie.Need-next-of-requires Inv-loop μ-loop
 next-of-requires c κs = answers.in-image _ _ (c .before .before .before .before .before .before .pre .0) _ (c .before .before .before .loop .inv .0)
@@ -54,7 +54,7 @@ loop-less : tie.Need-loop-less Inv-loop μ-loop
 loop-less c =
     let w = c .before .before .before .before .before .before .before .before .pre .0 in
     let l = c .before .before .before .before .before .loop in
-    omega (arith, laws.reach-room _ _ w _ (l .inv .0), answers.on-further _ _ w _ (l .inv .0) _ (c .before .next-of .ensures .0) (c .if2 .left))
+    omega (arith, reach-room _ _ w _ (l .inv .0), answers.on-further _ _ w _ (l .inv .0) _ (c .before .next-of .ensures .0) (c .if2 .left))
 
 loop-again : tie.Need-loop-again Inv-loop μ-loop
 loop-again c =

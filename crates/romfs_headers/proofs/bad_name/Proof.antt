@@ -1,4 +1,4 @@
-use borrow.Author.Tests.{eq-eqb, ne-eqb, lt-ltb, le-ltb, le-leb, lt-leb, not-true, not-false}
+use borrow.Author.Tests.{eq-eqb, ne-eqb}
 use Rattle.romfs_rules.specs.Layout.{nameEnds}
 use Rattle.romfs_rules.specs.Rules.{badName}
 use borrow.Author.Needs.{needs}

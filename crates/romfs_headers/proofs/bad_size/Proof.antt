@@ -1,5 +1,3 @@
-use borrow.Author.Tests.{eq-eqb, ne-eqb, lt-ltb, le-ltb, le-leb, lt-leb, not-true, not-false}
-use mathlib.Core.Path.{_≡_, refl, sym, ap, _∙_}
 use Rattle.romfs_rules.specs.Rules.{badSize}
 use borrow.Author.Needs.{needs}
 use Rattle.romfs_headers.proofs.bad_size.Statement.{statement}

@@ -1,7 +1,7 @@
 use mathlib.Core.Bool.{not}
 use lib.Dec.{eqb}
-use mathlib.Core.Path.{_≡_, refl, sym, ap, _∙_}
-use Prim.Native.Nat.{ℕ, _+_, _*_, _-_, _/_, _%_, _≤_, _<_}
+use mathlib.Core.Path.{ap, _∙_}
+use Prim.Native.Nat.{ℕ}
 use native.Mathlib.Omega.{arith}
 use Rattle.romfs_rules.specs.Layout.{contentAt, afterName, endOf, wordSum}
 use Rattle.romfs_rules.specs.Rules.{badSum}

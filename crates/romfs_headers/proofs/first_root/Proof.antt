@@ -1,4 +1,3 @@
-use mathlib.Core.Path.{_≡_, refl, sym, ap, _∙_}
 use native.Mathlib.Omega.{arith}
 use Rattle.romfs_rules.specs.Layout.{firstRoot, afterName}
 use borrow.Author.Needs.{needs}

@@ -1,5 +1,4 @@
-use borrow.Author.Tests.{eq-eqb, ne-eqb, lt-ltb, le-ltb, le-leb, lt-leb, not-true, not-false}
-use mathlib.Core.Path.{_≡_, refl, sym, ap, _∙_}
+use borrow.Author.Tests.{eq-eqb, ne-eqb}
 use Rattle.romfs_rules.specs.Layout.{descends}
 use borrow.Author.Needs.{needs}
 use Rattle.romfs_headers.proofs.goes_down.Statement.{statement}

@@ -1,4 +1,4 @@
-use borrow.Author.Tests.{eq-eqb, ne-eqb, lt-ltb, le-ltb, le-leb, lt-leb, not-true, not-false}
+use borrow.Author.Tests.{eq-eqb, ne-eqb}
 use Rattle.romfs_rules.specs.Layout.{hasData}
 use Rattle.romfs_headers.proofs.has_data.Statement.{statement}
 use Rattle.romfs_headers.proofs.has_data.Tie as tie

@@ -1,4 +1,3 @@
-use borrow.Author.Tests.{eq-eqb, ne-eqb, lt-ltb, le-ltb, le-leb, lt-leb, not-true, not-false}
 use Rattle.romfs_rules.specs.Layout.{isDots, name}
 use borrow.Author.Needs.{needs}
 use Rattle.romfs_headers.proofs.is_dots.Statement.{statement}

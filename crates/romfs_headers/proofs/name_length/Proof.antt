@@ -1,11 +1,8 @@
 use borrow.Author.Needs.{needs}
 use borrow.Author.Count.{below-none, below-more}
-use mathlib.Core.Path.{_≡_, refl, ap, _∙_}
-use mathlib.Core.Bool.{false}
-use Prim.Native.Nat.{ℕ, _+_, _≤_, _<_, _-_}
-use native.Mathlib.Omega.{arith}
-use Rattle.lists.specs.Least.{found, none-found, Below}
-use Rattle.romfs_rules.specs.Layout.{nameLength, zeroAt, fullSize}
+use Prim.Native.Nat.{_+_, _≤_, _-_}
+use Rattle.lists.specs.Least.{Below}
+use Rattle.romfs_rules.specs.Layout.{zeroAt}
 use Rattle.romfs_headers.proofs.Laws as laws
 use Rattle.romfs_headers.proofs.name_length.Statement.{statement}
 use Rattle.romfs_headers.proofs.name_length.Tie as tie

@@ -1,4 +1,4 @@
-use borrow.Author.Tests.{eq-eqb, ne-eqb, lt-ltb, le-ltb, le-leb, lt-leb, not-true, not-false}
+use borrow.Author.Tests.{eq-eqb, ne-eqb}
 use Rattle.romfs_headers.proofs.no_info.Statement.{statement}
 use Rattle.romfs_headers.proofs.no_info.Tie as tie
 

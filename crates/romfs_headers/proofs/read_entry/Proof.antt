@@ -7,6 +7,8 @@ use denote.Ref.{now}
 use Rattle.romfs_rules.specs.Layout.{own, hasList}
 use Rattle.romfs_rules.specs.Rules.{badHeader, badNext, badFirst}
 use Rattle.romfs_rules.specs.Facts.{has-list, no-list, empty-list, own-test}
+use Rattle.romfs_headers.specs.Known.{step-is}
+use Rattle.romfs_headers.specs.declared.Step.the-variants as step
 use Rattle.romfs_headers.proofs.Laws as laws
 use Rattle.romfs_headers.proofs.read_entry.Statement.{statement}
 use Rattle.romfs_headers.proofs.read_entry.Tie as tie
@@ -38,48 +40,57 @@ first-is c =
 
 -- ---- the answers
 returns : tie.Need-returns
-returns c = laws.fault-short _ _ _ _ (c .if1 .taken)
+returns c = step-is _ _ _ _ (step.Broken 26) (laws.fault-short _ _ _ _ (c .if1 .taken))
 
 returns-2 : tie.Need-returns-2
-returns-2 c = laws.fault-header _ _ _ _ (sym (c .before .bad-header .ensures) ∙ c .if2 .taken)
+returns-2 c = step-is _ _ _ _ (step.Broken 26) (laws.fault-header _ _ _ _ (sym (c .before .bad-header .ensures) ∙ c .if2 .taken))
 
 returns-3 : tie.Need-returns-3
-returns-3 c = laws.fault-next _ _ _ _ (header-fine (c .before .before .before .before)) (sym (next-is (c .before)) ∙ c .if3 .taken)
+returns-3 c =
+    step-is _ _ _ _ (step.Broken 27)
+    (laws.fault-next _ _ _ _ (header-fine (c .before .before .before .before)) (sym (next-is (c .before)) ∙ c .if3 .taken))
 
 returns-4 : tie.Need-returns-4
 returns-4 c =
     let t = no-list _ _ (sym (c .before .goes-down .ensures) ∙ not-true _ (c .if4 .taken)) in
+    step-is _ _ _ _ step.Leaf
     (laws.fault-leaf _ _ _ _ (header-fine (c .before .before .before .before .before .before)) (next-fine (c .before .before)) t, t)
 
 returns-5 : tie.Need-returns-5
 returns-5 c =
     let t = empty-list _ _ (sym (c .before .info-of .ensures .0) ∙ c .if5 .taken) in
+    step-is _ _ _ _ step.Leaf
     (laws.fault-leaf _ _ _ _ (header-fine (c .before .before .before .before .before .before .before .before)) (next-fine (c .before .before .before .before)) t, t)
 
 returns-6 : tie.Need-returns-6
 returns-6 c =
-    laws.fault-first _ _ _ _ (header-fine (c .before .before .before .before .before .before .before .before .before .before .before))
+    step-is _ _ _ _ (step.Broken 27)
+    (laws.fault-first _ _ _ _ (header-fine (c .before .before .before .before .before .before .before .before .before .before .before))
     (next-fine (c .before .before .before .before .before .before .before))
-    (sym (first-is (c .before)) ∙ c .if6 .taken)
+    (sym (first-is (c .before)) ∙ c .if6 .taken))
 
 returns-7 : tie.Need-returns-7
 returns-7 c =
-    laws.fault-deep _ _ _ _ (header-fine (c .before .before .before .before .before .before .before .before .before .before .before .before))
+    step-is _ _ _ _ (step.Broken 28)
+    (laws.fault-deep _ _ _ _ (header-fine (c .before .before .before .before .before .before .before .before .before .before .before .before))
     (next-fine (c .before .before .before .before .before .before .before .before))
     (sym (first-is (c .before .before)) ∙ c .before .if6 .left)
     (listed (c .before .before .before .before))
-    (omega arith)
+    (omega arith))
 
 returns-8 : tie.Need-returns-8
 returns-8 c =
-    let t = listed (c .before .before .before .before) in (
+    let t = listed (c .before .before .before .before) in
+    let first = c .before .before .before .before .before .info-of in
+    let own = c .before .before .before .own-bound in
+    step-is _ _ _ _ (step.List (first .result) (own .result)) (
       laws.fault-none _ _ _ _ (header-fine (c .before .before .before .before .before .before .before .before .before .before .before .before))
           (next-fine (c .before .before .before .before .before .before .before .before))
           (sym (first-is (c .before .before)) ∙ c .before .if6 .left)
           t
           (omega arith),
       t,
-      c .before .before .before .before .before .info-of .ensures .0,
+      first .ensures .0,
       own-is (c .before .before .before),
     )
 

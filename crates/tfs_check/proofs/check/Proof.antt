@@ -69,9 +69,11 @@ check-blocks-requires c κs =
 
 returns-6 : tie.Need-returns-6
 returns-6 c =
-    let past = c .before .before .before in
-    (rw (headed (past .before .before .before .before), ← slot (past .before), le-ltb _ _ (past .if4 .left), ← c .before .before .first-bad-inode .ensures, le-ltb _ _ (c .before .if5 .left), ← past .before .before .before .blocks2 .ensures .0)
-    (c .check-blocks .ensures .0), c .check-blocks .ensures .1)
+    let past = c .before .before .before in (
+      rw (headed (past .before .before .before .before), ← slot (past .before), le-ltb _ _ (past .if4 .left), ← c .before .before .first-bad-inode .ensures, le-ltb _ _ (c .before .if5 .left), ← past .before .before .before .blocks2 .ensures .0)
+          (c .check-blocks .ensures .0),
+      c .check-blocks .ensures .1,
+    )
 
 pub check-spec : {M : Type 1} → statement M
 check-spec =

@@ -37,9 +37,10 @@ free-sound-requires c κs = passed c
 returns : tie.Need-returns
 unfolding freeAnswer
 returns c =
-    let call = c .before .before .before .check in
-    ( fault-answer (c .before .f .given .0 .0) _ (sym (ap checkedTold (c .before .f .given .1)) ∙ call .ensures .0) _
-    , fault-fits _ _ (c .before .f .given .1) (call .ensures .1) )
+    let call = c .before .before .before .check in (
+      fault-answer (c .before .f .given .0 .0) _ (sym (ap checkedTold (c .before .f .given .1)) ∙ call .ensures .0) _,
+      fault-fits _ _ (c .before .f .given .1) (call .ensures .1),
+    )
 
 -- src/lib.rt:100:1
 returns-2 : tie.Need-returns-2

@@ -1,0 +1,297 @@
+-- Laws of the walks, one for each way that the code takes.
+use Prim.Native.Nat.{ℕ, suc, _+_, _-_, _/_, _%_, _≤_, _<_, min}
+use mathlib.Core.Path.{_≡_, refl, sym, ap, subst, _∙_}
+use mathlib.Core.Logic.{_≢_}
+use mathlib.Core.Bool.{Bool, true, false, not, _&&_, _||_}
+use mathlib.Core.List.{List}
+use native.Mathlib.Omega.{arith}
+use borrow.Author.Tests.{eq-eqb, ne-eqb, lt-ltb, le-ltb, ltb-false}
+use lib.Dec.{ltb, eqb}
+use lib.ListN.{length}
+use Rattle.romfs_rules.specs.Layout.{fullSize, firstRoot, nameLength, nameEnds, wordSum, kind, next, info, isDots, hasList}
+use Rattle.romfs_rules.specs.Rules as rules
+use Rattle.romfs_rules.specs.Rules.{Verdict, accepted, refused, short21, magic22, size23, sum24, name25}
+use Rattle.romfs_rules.specs.Reached.{Reached, root, along, inside, IsReached, Sound}
+use Rattle.romfs_rules.specs.Check.{andThen, visitList, visitEntry, visitAll, walk, volume, links, check, leads, towards, seek, isReached, badLink}
+use Rattle.romfs_rules.specs.Facts.{room, ends, next-from, next-to, own-to, first-to, depth-to, fault-sound, or-no-l, or-no-r, list-descends, list-first}
+use Rattle.romfs_rules.specs.Visit.{list-refused, list-last, list-next, entry-refused, entry-leaf, entry-list, entry-test}
+use Rattle.romfs_rules.specs.Walked.{Volume, full-from, full-to, root-to, visit-none, visit-root, sound, reached-in, reached-room}
+use Rattle.romfs_rules.specs.Links.{linkFault}
+use Rattle.romfs_rules.specs.Seek.{seek-here, seek-none, seek-on, is-none, is-seek, towards-reached, towards-further}
+use Rattle.romfs_headers.specs.Known.{Whole, Reads, stepOf, step-reads}
+use Rattle.romfs_check.specs.Known.{Walked, Lies}
+use Rattle.romfs_check.specs.Facts.{reach-room, sound-next}
+use Rattle.romfs_check.specs.declared.Below.{Below}
+use Rattle.romfs_check.specs.declared.Below.the-variants as below
+use Rattle.romfs_headers.specs.declared.Step.{Step}
+use Rattle.romfs_headers.specs.declared.Step.the-variants as step
+use Rattle.romfs_check.specs.Told.{toldFault}
+use Rattle.romfs_check.specs.declared.Fault.{Fault}
+use Rattle.romfs_check.specs.declared.Fault.the-variants as fault
+
+-- ---- the walk
+-- the list from at on is what is left of it from p on, at some fuel that is enough
+pub record Rest (s : List ℕ) (test : ℕ → ℕ → ℕ → Verdict) (left bound at p : ℕ) : Type 0 where
+  pub fuel : ℕ
+  pub enough : bound - p ≤ fuel
+  pub same : visitList s (visitEntry s test left bound) (bound - at) at ≡ visitList s (visitEntry s test left bound) fuel p
+
+pub rest-all : (s : List ℕ) (test : ℕ → ℕ → ℕ → Verdict) (left bound at : ℕ) → Rest s test left bound at at
+rest-all s test left bound at = record { fuel = bound - at; enough = omega arith; same = refl }
+
+module _ (s : List ℕ) (test : ℕ → ℕ → ℕ → Verdict) (left bound at p : ℕ) (r : Rest s test left bound at p) (h : p < bound) where
+  pub rest-fault : (x : Fault) → toldFault x ≡ visitEntry s test left bound p → toldFault x ≡ visitList s (visitEntry s test left bound) (bound - at) at
+  rest-fault (fault.Volume n) e = sym (r .same ∙ list-refused s (visitEntry s test left bound) (r .fuel) p n 0 (omega (arith, r .enough)) (sym e))
+  rest-fault (fault.Header n q) e = sym (r .same ∙ list-refused s (visitEntry s test left bound) (r .fuel) p n q (omega (arith, r .enough)) (sym e))
+
+  pub rest-last : accepted ≡ visitEntry s test left bound p → next s p ≡ 0 → accepted ≡ visitList s (visitEntry s test left bound) (bound - at) at
+  rest-last e z = sym (r .same ∙ list-last s (visitEntry s test left bound) (r .fuel) p (omega (arith, r .enough)) (sym e) z)
+
+  pub rest-next : accepted ≡ visitEntry s test left bound p → (q : ℕ) → q ≡ next s p → (q ≡ 0 → ⊥) → p < q → Rest s test left bound at q
+  rest-next e q f z l = record {
+    fuel = r .fuel - 1;
+    enough = omega (arith, r .enough);
+    same = r .same ∙ list-next s (visitEntry s test left bound) (r .fuel) p (omega (arith, r .enough)) (sym e) (λ y. z (f ∙ y)) ∙ ap (visitList s (visitEntry s test left bound) (r .fuel - 1)) (sym f);
+  }
+
+-- an accepted entry is sound
+pub walked-sound : (s : List ℕ) (left bound p : ℕ) → left ≤ 7 → accepted ≡ visitEntry s (rules.fault s) left bound p → Sound s p bound (8 - left)
+walked-sound s left bound p l e = fault-sound s p bound (8 - left) (entry-test s (rules.fault s) bound p left (8 - left) (omega arith) (sym e))
+
+pub sound-room : (s : List ℕ) (bound d p : ℕ) → Sound s p bound d → p + 32 ≤ bound
+sound-room s bound d p h = omega (arith, room s p, ends s p bound d h)
+
+-- ---- a step
+pub reads-of : (s : List ℕ) (bound left p : ℕ) {a b : Step} → a ≡ b → a ≡ stepOf s bound left p → Reads s bound left p b
+reads-of s bound left p {a} {b} e h = step-reads s bound left p b (sym e ∙ h)
+
+module _ (s : List ℕ) (bound left p : ℕ) (l : left ≤ 7) where
+  pub step-broken : (n : ℕ) → Reads s bound left p (step.Broken n) → refused n p ≡ visitEntry s (rules.fault s) left bound p
+  step-broken n r = sym (entry-refused s (rules.fault s) bound p left (8 - left) n p (omega arith) r)
+
+  pub step-leaf : Reads s bound left p step.Leaf → accepted ≡ visitEntry s (rules.fault s) left bound p
+  step-leaf r = sym (entry-leaf s (rules.fault s) bound p left (8 - left) (omega arith) (r .0) (r .1))
+
+  -- where the list of an entry lies
+  pub step-in : (f o : ℕ) → Reads s bound left p (step.List f o) → (f < o) × (o ≤ bound) × (1 ≤ left)
+  step-in f o r =
+      let h : Sound s p bound (8 - left) = fault-sound s p bound (8 - left) (r .0) in
+      let t : hasList s p ≡ true = r .1 in
+      omega (arith, first-to s p bound (8 - left) h t, own-to s p bound (8 - left) h, depth-to s p bound (8 - left) h t, r .2, r .3)
+
+  pub step-list : (f o : ℕ) → Reads s bound left p (step.List f o) → visitList s (visitEntry s (rules.fault s) (left - 1) o) (o - f) f ≡ visitEntry s (rules.fault s) left bound p
+  step-list f o r =
+      let k = step-in f o r in
+      rw (r .2, r .3) (sym (entry-list s (rules.fault s) bound p left (8 - left) (omega arith) (omega arith) (r .0) (r .1)))
+
+-- ---- rules 21 to 25
+module _ (s : List ℕ) where
+  pub volume-21 : length s < 32 → refused 21 0 ≡ volume s
+  unfolding volume short21
+  volume-21 a = rw (lt-ltb (length s) 32 a)
+
+  pub volume-22 : 32 ≤ length s → magic22 s ≡ true → refused 22 0 ≡ volume s
+  unfolding volume short21
+  volume-22 a b = rw (le-ltb (length s) 32 a, b)
+
+  pub volume-23 : 32 ≤ length s → magic22 s ≡ false → size23 s ≡ true → refused 23 0 ≡ volume s
+  unfolding volume short21
+  volume-23 a b c = rw (le-ltb (length s) 32 a, b, c)
+
+  pub volume-24 : 32 ≤ length s → magic22 s ≡ false → size23 s ≡ false → sum24 s ≡ true → refused 24 0 ≡ volume s
+  unfolding volume short21
+  volume-24 a b c d = rw (le-ltb (length s) 32 a, b, c, d)
+
+  pub volume-25 : 32 ≤ length s → magic22 s ≡ false → size23 s ≡ false → sum24 s ≡ false → name25 s ≡ true → refused 25 0 ≡ volume s
+  unfolding volume short21
+  volume-25 a b c d e = rw (le-ltb (length s) 32 a, b, c, d, e)
+
+  pub volume-fine : 32 ≤ length s → magic22 s ≡ false → size23 s ≡ false → sum24 s ≡ false → name25 s ≡ false → accepted ≡ volume s
+  unfolding volume short21
+  volume-fine a b c d e = rw (le-ltb (length s) 32 a, b, c, d, e)
+
+  pub size-test : (r : Bool) (full len : ℕ) → r ≡ (ltb full 32 || (ltb len full || not (eqb (full % 16) 0))) → full ≡ fullSize s → len ≡ length s → r ≡ size23 s
+  unfolding size23
+  size-test r full len h e f = rw (← e, ← f) h
+
+  pub sum-test : (r m full : ℕ) → r ≡ wordSum s 0 (m / 4) → m ≡ min 512 full → full ≡ fullSize s → not (eqb r 0) ≡ sum24 s
+  unfolding sum24
+  sum-test r m full h e f = rw (← f, ← e, ← h)
+
+  pub name-bad : (n full : ℕ) → n ≡ nameLength s 16 → full ≡ fullSize s → full ≤ 16 + n → name25 s ≡ true
+  unfolding name25 nameEnds
+  name-bad n full e f h = rw (← e, ← f, le-ltb (16 + n) full h)
+
+  pub name-fine : (n full : ℕ) → n ≡ nameLength s 16 → full ≡ fullSize s → 16 + n < full → name25 s ≡ false
+  unfolding name25 nameEnds
+  name-fine n full e f h = rw (← e, ← f, lt-ltb (16 + n) full h)
+
+  pub whole-of : (full : ℕ) → full ≡ fullSize s → full < 4294967296 → size23 s ≡ false → Whole s full × (32 ≤ full)
+  unfolding size23
+  whole-of full e l h =
+      let rest = or-no-r (ltb (fullSize s) 32) (ltb (length s) (fullSize s) || not (eqb (fullSize s % 16) 0)) h in
+      let a : 32 ≤ fullSize s = ltb-false (fullSize s) 32 (or-no-l (ltb (fullSize s) 32) (ltb (length s) (fullSize s) || not (eqb (fullSize s % 16) 0)) h) in
+      let b : fullSize s ≤ length s = ltb-false (length s) (fullSize s) (or-no-l (ltb (length s) (fullSize s)) (not (eqb (fullSize s % 16) 0)) rest) in
+      (record { is = e; inside = omega arith; small = l }, omega arith)
+
+-- ---- the root list
+module _ (s : List ℕ) (test : ℕ → ℕ → ℕ → Verdict) (first full : ℕ) (e : first ≡ firstRoot s) (f : full ≡ fullSize s) where
+  pub root-none : first ≡ full → accepted ≡ visitAll s test
+  root-none z = sym (visit-none s test (sym e ∙ z ∙ f))
+
+  pub root-some : (first ≡ full → ⊥) → visitList s (visitEntry s test 7 full) (full - first) first ≡ visitAll s test
+  root-some z = rw (e, f) (sym (visit-root s test (λ y. z (e ∙ y ∙ sym f))))
+
+pub root-in-full : (s : List ℕ) (first full : ℕ) → Volume s → first ≡ firstRoot s → full ≡ fullSize s → (first ≡ full → ⊥) → first < full
+root-in-full s first full v e f z = omega (arith, root-to s v)
+
+-- ---- reached headers
+-- the search is what is left of it from p on, at some fuel that is enough
+pub record Path (s : List ℕ) (want p : ℕ) : Type 0 where
+  pub fuel : ℕ
+  pub enough : fullSize s - p ≤ fuel
+  pub same : isReached s want ≡ seek s want fuel p
+
+pub reach-start : (s : List ℕ) (first full : ℕ) → first ≡ firstRoot s → full ≡ fullSize s → (first ≡ full → ⊥) → IsReached s first
+reach-start s first full e f z =
+    subst (IsReached s) (sym e) (record { bound = fullSize s; depth = 1; reached = root (λ y. z (e ∙ y ∙ sym f)) })
+
+pub path-start : (s : List ℕ) (want first full : ℕ) → first ≡ firstRoot s → full ≡ fullSize s → (first ≡ full → ⊥) → Path s want first
+path-start s want first full e f z = record {
+  fuel = fullSize s;
+  enough = omega arith;
+  same = is-seek s want (λ y. z (e ∙ y ∙ sym f)) ∙ ap (seek s want (fullSize s)) (sym e);
+}
+
+pub path-empty : (s : List ℕ) (want first full : ℕ) → first ≡ firstRoot s → full ≡ fullSize s → first ≡ full → false ≡ isReached s want
+path-empty s want first full e f z = sym (is-none s want (sym e ∙ z ∙ f))
+
+module _ (s : List ℕ) (full : ℕ) (w : Walked s full) where
+  module _ (want p q : ℕ) (r : IsReached s p) (e : q ≡ towards s want p) (z : q ≡ 0 → ⊥) where
+    pub reach-on : IsReached s q
+    reach-on = subst (IsReached s) (sym e) (towards-reached s want p r (λ y. z (e ∙ y)))
+
+    pub reach-further : p < q
+    reach-further = subst (λ (x : ℕ). p < x) (sym e) (towards-further s want p (r .bound) (r .depth) (sound s (w .volume) (w .walked) (r .reached)) (λ y. z (e ∙ y)))
+
+    pub path-on : Path s want p → (want ≡ p → ⊥) → Path s want q
+    path-on h d =
+        let in-full = reach-room s full w p r in
+        let some : 0 < h .fuel = omega (arith, h .enough, w .whole .is) in
+        record {
+          fuel = h .fuel - 1;
+          enough = omega (arith, h .enough, reach-further, some);
+          same = h .same ∙ seek-on s want (h .fuel) p some d (λ y. z (e ∙ y)) ∙ ap (seek s want (h .fuel - 1)) (sym e);
+        }
+
+  module _ (want p : ℕ) (r : IsReached s p) (h : Path s want p) where
+    some-fuel : 0 < h .fuel
+    some-fuel = let in-full = reach-room s full w p r in omega (arith, h .enough, w .whole .is)
+
+    pub path-here : want ≡ p → true ≡ isReached s want
+    path-here e = sym (h .same ∙ seek-here s want (h .fuel) p some-fuel e)
+
+    pub path-none : (q : ℕ) → q ≡ towards s want p → q ≡ 0 → (want ≡ p → ⊥) → false ≡ isReached s want
+    path-none q e z d = sym (h .same ∙ seek-none s want (h .fuel) p some-fuel d (sym e ∙ z))
+
+-- ---- rule 29
+not-not : (b : Bool) → b ≡ (not (not b) || false)
+not-not true = refl
+not-not false = refl
+
+module _ (s : List ℕ) (p to : ℕ) (e : to ≡ info s p) where
+  pub link-hard-none : kind s p ≡ 0 → isReached s to ≡ false → true ≡ badLink s p
+  unfolding badLink
+  link-hard-none k r = let r₂ = rw e at r in rw (r₂, eq-eqb (kind s p) 0 k)
+
+  pub link-hard : kind s p ≡ 0 → isReached s to ≡ true → eqb (kind s to) 0 ≡ badLink s p
+  unfolding badLink
+  link-hard k r =
+      let r₂ = rw e at r in
+      rw (e, r₂, eq-eqb (kind s p) 0 k, ne-eqb (kind s p) 1 (omega arith)) (not-not (eqb (kind s (info s p)) 0))
+
+  pub link-other : (kind s p ≡ 0 → ⊥) → (kind s p ≡ 1 → ⊥) → false ≡ badLink s p
+  unfolding badLink
+  link-other k l = rw (ne-eqb (kind s p) 0 k, ne-eqb (kind s p) 1 l)
+
+  pub link-named : (kind s p ≡ 0 → ⊥) → isDots s p ≡ false → false ≡ badLink s p
+  unfolding badLink
+  link-named k d = rw (ne-eqb (kind s p) 0 k, d) (named (eqb (kind s p) 1))
+    where
+      named : (b : Bool) → false ≡ ((b && false) && not (isReached s (info s p)))
+      named true = refl
+      named false = refl
+
+  pub link-dots : kind s p ≡ 1 → isDots s p ≡ true → not (isReached s to) ≡ badLink s p
+  unfolding badLink
+  link-dots k d = rw (e, d, ne-eqb (kind s p) 0 (omega arith), eq-eqb (kind s p) 1 k)
+
+-- what a test of an offset says of the offset that it is
+pub leads-test : (m want : ℕ) {r t : Bool} {n : ℕ} → r ≡ leads n want → n ≡ m → r ≡ t → leads m want ≡ t
+leads-test m want h e k = rw (← e, ← h) k
+
+pub not-zero : (n : ℕ) → (n ≡ 0 → ⊥) → not (eqb n 0) ≡ true
+not-zero n h = rw (ne-eqb n 0 h)
+
+pub zero : (n : ℕ) → n ≡ 0 → not (eqb n 0) ≡ false
+zero n h = rw (eq-eqb n 0 h)
+
+-- ---- the second walk
+module _ (s : List ℕ) (full : ℕ) (w : Walked s full) (bound left p : ℕ) (l : left ≤ 7) (r : Reached s p bound (8 - left)) where
+  pub here-room : p + 32 ≤ full
+  here-room = reach-room s full w p (record { bound = bound; depth = 8 - left; reached = r })
+
+  here-sound : Sound s p bound (8 - left)
+  here-sound = sound s (w .volume) (w .walked) r
+
+  pub here-in : p < bound
+  here-in = reached-in s (w .volume) (w .walked) r .1
+
+  pub here-next : (q : ℕ) → q ≡ next s p → (q ≡ 0 → ⊥) → (p < q) × (q < bound)
+  here-next q e z = sound-next s bound (8 - left) p q here-sound e z
+
+  pub next-reached : (q : ℕ) → q ≡ next s p → (q ≡ 0 → ⊥) → Reached s q bound (8 - left)
+  next-reached q e z = subst (λ (x : ℕ). Reached s x bound (8 - left)) (sym e) (along r (λ y. z (e ∙ y)))
+
+  pub link-broken : badLink s p ≡ true → refused 29 p ≡ visitEntry s (linkFault s) left bound p
+  unfolding linkFault
+  link-broken b = sym (entry-refused s (linkFault s) bound p left (8 - left) 29 p (omega arith) (rw b))
+
+  link-fine : badLink s p ≡ false → linkFault s bound (8 - left) p ≡ accepted
+  unfolding linkFault
+  link-fine b = rw b
+
+  pub link-leaf : badLink s p ≡ false → hasList s p ≡ false → accepted ≡ visitEntry s (linkFault s) left bound p
+  link-leaf b t = sym (entry-leaf s (linkFault s) bound p left (8 - left) (omega arith) (link-fine b) t)
+
+  module _ (f o : ℕ) (k : Lies s bound p (below.List f o)) where
+    pub left-some : 1 ≤ left
+    left-some = omega (arith, depth-to s p bound (8 - left) here-sound (k .0))
+
+    pub list-reached : Reached s f o (8 - (left - 1))
+    list-reached =
+        let d : 8 - (left - 1) ≡ suc (8 - left) = omega (arith, left-some) in
+        rw (d, k .1, k .2) (inside r (list-descends s p (k .0)) (list-first s p (k .0)))
+
+    pub link-list : badLink s p ≡ false → visitList s (visitEntry s (linkFault s) (left - 1) o) (o - f) f ≡ visitEntry s (linkFault s) left bound p
+    link-list b = rw (k .1, k .2) (sym (entry-list s (linkFault s) bound p left (8 - left) (omega arith) (omega (arith, left-some)) (link-fine b) (k .0)))
+
+pub lies-of : (s : List ℕ) (bound p : ℕ) {a b : Below} → a ≡ b → Lies s bound p a → Lies s bound p b
+lies-of s bound p e h = rw e at h
+
+-- the root's list
+pub root-reached : (s : List ℕ) (first full : ℕ) → first ≡ firstRoot s → full ≡ fullSize s → (first ≡ full → ⊥) → Reached s first full 1
+root-reached s first full e f z = rw (e, f) (root (λ y. z (e ∙ y ∙ sym f)))
+
+-- ---- the check
+-- a refusal goes on
+pub refused-on : (x : Fault) (a b : Verdict) → toldFault x ≡ a → toldFault x ≡ andThen a b
+refused-on (fault.Volume n) a b e = rw (← e)
+refused-on (fault.Header n p) a b e = rw (← e)
+
+pub accepted-on : (a b v : Verdict) → accepted ≡ a → v ≡ b → v ≡ andThen a b
+accepted-on a b v e f = rw (← e) f
+
+pub check-is : (s : List ℕ) (v : Verdict) → v ≡ andThen (volume s) (andThen (walk s) (links s)) → v ≡ check s
+unfolding check
+check-is s v e = e

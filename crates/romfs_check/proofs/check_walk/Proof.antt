@@ -1,0 +1,27 @@
+use Rattle.romfs_check.specs.Facts.{full-at-least}
+use mathlib.Core.Path.{_∙_}
+use borrow.Author.Needs.{needs}
+use Rattle.romfs_rules.specs.Check.{walk}
+use Rattle.romfs_rules.specs.Rules.{fault}
+use Rattle.romfs_check.proofs.Laws as laws
+use Rattle.romfs_check.proofs.check_walk.Statement.{statement}
+use Rattle.romfs_check.proofs.check_walk.Tie as tie
+
+first-root-requires : tie.Need-first-root-requires
+unfolding walk
+first-root-requires c κs = (c .before .pre .0, full-at-least _ _ (c .before .pre .1) (c .before .pre .0 .is))
+
+returns : tie.Need-returns
+unfolding walk
+returns c = laws.root-none _ (fault _) _ _ (c .before .first-root .ensures) (c .before .before .before .pre .0 .is) (c .if1 .taken)
+
+walk-list-requires : tie.Need-walk-list-requires
+unfolding walk
+walk-list-requires c κs = let l = laws.root-in-full _ _ _ (c .before .before .before .pre .1) (c .before .first-root .ensures) (c .before .before .before .pre .0 .is) (c .if1 .left) in (c .before .before .before .pre .0, l, search needs, search needs)
+
+returns-2 : tie.Need-returns-2
+unfolding walk
+returns-2 c = c .walk-list .ensures ∙ laws.root-some _ (fault _) _ _ (c .before .before .first-root .ensures) (c .before .before .before .before .pre .0 .is) (c .before .if1 .left)
+
+pub check-walk-spec : {M : Type 1} → statement M
+check-walk-spec = tie.close (tie.spec first-root-requires returns walk-list-requires returns-2)
