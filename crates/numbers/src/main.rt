@@ -94,18 +94,23 @@ fn sizes(image: &mut [u8]) {
     answer(b"  free bytes: ", tfs_look::free_bytes(image));
 }
 
-// Every request on an image of 1,535 bytes.
+// Every request on an image of 1,535 bytes: those on names, then the others.
 fn short(image: &mut [u8]) {
     text(b"1535 bytes\n");
     done(b"  format: ", tfs_change::format(image, b"SHORT"));
-    checked(b"  check: ", tfs_check::check(image));
     answer(b"  open: ", tfs_look::open(image, b"FILE"));
     answer(b"  create: ", tfs_change::create(image, b"FILE", 0));
     done(b"  remove: ", tfs_change::remove(image, b"FILE"));
+}
+
+fn short_too(image: &mut [u8]) {
+    checked(b"  check: ", tfs_check::check(image));
     let mut buf = [0u8; 8];
     answer(b"  read: ", tfs_transfer::read(image, 3, 0, &mut buf));
-    answer(b"  write: ", tfs_transfer::write(image, 3, 0, &buf));
-    listed(b"  list: ", tfs_look::list(image, 0).entry);
+    answer(b"  write: ", tfs_transfer::write(image, 3, 0, b"12345678"));
+    let listing = tfs_look::list(image, 0);
+    let entry = listing.entry;
+    listed(b"  list: ", entry);
     answer(b"  free bytes: ", tfs_look::free_bytes(image));
 }
 
@@ -117,18 +122,34 @@ fn granted(a: Answer) -> bool {
     }
 }
 
+fn letter(k: u32) -> u8 {
+    65 + (k % 26) as u8
+}
+
+// Creates an empty file of one letter; whether it was granted.
+fn add(image: &mut [u8], k: u32) -> bool {
+    let name = [letter(k)];
+    granted(tfs_change::create(image, &name, 0))
+}
+
 // Creates empty files "A", "B" and so on, until one is refused; how many were granted.
 fn fill(image: &mut [u8]) -> u32 {
-    let mut name = [65u8; 1];
     let mut k: u32 = 0;
-    while k < 26 && granted(tfs_change::create(image, &name, 0)) {
+    while k < 26 && add(image, k) {
         k += 1;
-        name[0] = 65 + k as u8;
     }
     k
 }
 
-// A full directory: a name that stands, and a new one.
+// A name that stands in a full directory, and a new one.
+fn two_names(image: &mut [u8]) {
+    answer(b"  create A: ", tfs_change::create(image, b"A", 0));
+    answer(b"  create Y, 65024 bytes: ", tfs_change::create(image, b"Y", 65024));
+    answer(b"  create NEW: ", tfs_change::create(image, b"NEW", 0));
+    answer(b"  create NEW, 65024 bytes: ", tfs_change::create(image, b"NEW", 65024));
+}
+
+// A full directory.
 fn full(image: &mut [u8]) {
     done(b": ", tfs_change::format(image, b"FULL"));
     text(b"  empty files created: ");
@@ -136,16 +157,7 @@ fn full(image: &mut [u8]) {
     text(b"\n");
     checked(b"  check: ", tfs_check::check(image));
     answer(b"  free bytes: ", tfs_look::free_bytes(image));
-    answer(b"  create A: ", tfs_change::create(image, b"A", 0));
-    answer(
-        b"  create Y, 65024 bytes: ",
-        tfs_change::create(image, b"Y", 65024),
-    );
-    answer(b"  create NEW: ", tfs_change::create(image, b"NEW", 0));
-    answer(
-        b"  create NEW, 65024 bytes: ",
-        tfs_change::create(image, b"NEW", 65024),
-    );
+    two_names(image);
 }
 
 fn main() {
@@ -153,6 +165,7 @@ fn main() {
     sizes(&mut large);
     let mut tiny = [0u8; 1535];
     short(&mut tiny);
+    short_too(&mut tiny);
     text(b"format 131 blocks");
     full(&mut large);
     let mut small = [0u8; 14336];

@@ -1,5 +1,6 @@
 // Runs packed test cases, made by a second program, through the romfs requests, and compares refusal, place, values, content, and
-// the hash of the image. One line for each case that differs, then the counts.
+// the hash of the image. One line for each case that differs, then the counts. The input is that of host/reference:
+// pack romfs crates/rom_cases/stdin --seed 1 --cases 1000
 use libc::STDOUT_FILENO;
 use romfs::ContentAnswer;
 use romfs::EntryAnswer;
