@@ -114,6 +114,15 @@ fn name_length(e: Entry) -> usize {
     }
 }
 
+// Whether the first n bytes of a name are text.
+fn same_start(name: &[u8; 16], n: usize, text: &[u8]) -> bool {
+    let all = &name[..];
+    if all.len() < n {
+        return false;
+    }
+    spans::search::same(&all[0..n], text)
+}
+
 // Whether text is the name that a slot's listing has, and empty for the other requests.
 fn same_name(kind: u32, image: &[u8], slot: u32, text: &[u8]) -> bool {
     if kind != 8 {
@@ -122,11 +131,7 @@ fn same_name(kind: u32, image: &[u8], slot: u32, text: &[u8]) -> bool {
     let listing = tfs_look::list(image, slot);
     let entry = listing.entry;
     let name = listing.name;
-    let n = name_length(entry);
-    if 16 < n {
-        return false;
-    }
-    spans::search::same(&name[0..n], text)
+    same_start(&name, name_length(entry), text)
 }
 
 // ---- what is expected
