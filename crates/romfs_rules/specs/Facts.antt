@@ -6,7 +6,7 @@ use mathlib.Core.Bool.{Bool, true, false, not, cond, _&&_, _||_}
 use mathlib.Core.List.{List}
 use native.Mathlib.Omega.{arith}
 use native.Mathlib.Decide.{ℕ-discrete}
-use borrow.Author.Tests.{ltb-false, leb-false, eq-eqb, ne-eqb}
+use borrow.Author.Tests.{ltb-false, leb-false, eq-eqb, ne-eqb, eqb-true, not-false}
 use lib.Dec.{leb, ltb, eqb}
 use Rattle.romfs_rules.specs.Layout.{afterName, next, info, contentAt, endOf, own, descends, hasList}
 use Rattle.romfs_rules.specs.Rules.{accepted, refused, overBound, badHeader, badNext, badFirst, badNesting, tooDeep, fault, badName, badSum, badInfo, badSize}
@@ -113,13 +113,20 @@ module _ (s : List ℕ) (p bound depth : ℕ) (h : Sound s p bound depth) where
       elim (ℕ-discrete (next s p) 0)
       [ yes z ↦ omega (arith, own-last s bound p z) | no z ↦ omega (arith, own-next s bound p z, next-to z) ]
 
-  first-in : hasList s p ≡ true → (ltb (info s p) (endOf s p) || leb (own s bound p) (info s p)) ≡ false
+  first-ok : hasList s p ≡ true → (not (eqb (info s p % 16) 0) || (ltb (info s p) (endOf s p) || leb (own s bound p) (info s p))) ≡ false
   unfolding badNesting badFirst
-  first-in t =
-      or-no-r (not (eqb (info s p % 16) 0)) (ltb (info s p) (endOf s p) || leb (own s bound p) (info s p))
-      (and-no (hasList s p) (not (eqb (info s p % 16) 0) || (ltb (info s p) (endOf s p) || leb (own s bound p) (info s p)))
+  first-ok t =
+      and-no (hasList s p) (not (eqb (info s p % 16) 0) || (ltb (info s p) (endOf s p) || leb (own s bound p) (info s p)))
       (or-no-r (badNext s bound p) (badFirst s bound p) (h .nested))
-      t)
+      t
+
+  pub first-even : hasList s p ≡ true → info s p % 16 ≡ 0
+  first-even t =
+      eqb-true (info s p % 16) 0
+      (not-false (eqb (info s p % 16) 0) (or-no-l (not (eqb (info s p % 16) 0)) (ltb (info s p) (endOf s p) || leb (own s bound p) (info s p)) (first-ok t)))
+
+  first-in : hasList s p ≡ true → (ltb (info s p) (endOf s p) || leb (own s bound p) (info s p)) ≡ false
+  first-in t = or-no-r (not (eqb (info s p % 16) 0)) (ltb (info s p) (endOf s p) || leb (own s bound p) (info s p)) (first-ok t)
 
   pub first-from : hasList s p ≡ true → endOf s p ≤ info s p
   first-from t = ltb-false (info s p) (endOf s p) (or-no-l (ltb (info s p) (endOf s p)) (leb (own s bound p) (info s p)) (first-in t))

@@ -12,3 +12,4 @@ pub mod Links
 pub mod Theorems
 pub mod Given
 pub mod Find
+pub mod Past

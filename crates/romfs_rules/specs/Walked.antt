@@ -55,7 +55,7 @@ module _ (s : List ℕ) (v : Volume s) where
   pub full-to : fullSize s ≤ length s
   full-to = ltb-false (length s) (fullSize s) (or-no-l (ltb (length s) (fullSize s)) (not (eqb (fullSize s % 16) 0)) rest23)
 
-  full-even : fullSize s % 16 ≡ 0
+  pub full-even : fullSize s % 16 ≡ 0
   full-even =
       eqb-true (fullSize s % 16) 0
       (not-false (eqb (fullSize s % 16) 0) (or-no-r (ltb (length s) (fullSize s)) (not (eqb (fullSize s % 16) 0)) rest23))
