@@ -20,7 +20,7 @@ use Rattle.romfs_rules.specs.Rules.{Verdict, accepted, refused, short21,
 use Rattle.romfs_rules.specs.Reached.{along, IsReached, Sound, root}
 use Rattle.romfs_rules.specs.Check.{andThen, visitList, visitEntry, visitAll, walk, towards, seek, isReached, badLink, links, volume, check}
 use Rattle.romfs_rules.specs.Answers.{Answer, granted, denied, checked, firstOf, matchFrom, matchIn, isDirectory, found, find, Entry, entryAt, described, entry, measured, contentLength, partOf, content}
-use Rattle.romfs_rules.specs.Facts.{fault-sound, next-to, own-to, first-even, first-to}
+use Rattle.romfs_rules.specs.Facts.{and-yes-l, fault-sound, next-to, own-to, first-even, first-to}
 use Rattle.romfs_rules.specs.Visit.{entry-test}
 use Rattle.romfs_rules.specs.Walked.{Volume, volume-of, full-even, root-in, reached-room}
 use Rattle.romfs_rules.specs.Seek.{is-reached, towards-reached}
@@ -192,6 +192,10 @@ module _ (s t : List ℕ) (same : SameFull s t) where
     unfolding hasList
     list-at = rw (descends-at, info-at)
 
+    towards-at : (want : ℕ) → towards t want p ≡ towards s want p
+    unfolding towards
+    towards-at want = rw (next-at, descends-at, info-at)
+
     -- 26 to 28; the sum is of bytes inside F where the end is
     sum-bad : (bound : ℕ) → bound ≤ fullSize s → overBound s bound p ≡ false → badSum t p ≡ badSum s p
     unfolding badSum overBound endOf
@@ -260,3 +264,124 @@ module _ (s t : List ℕ) (same : SameFull s t) where
         (cond-else (eqb (firstRoot s) (fullSize s)) _ _ accepted
         (λ z.
         lists 7 (fullSize s - firstRoot s) (firstRoot s) (fullSize s) 1 (omega arith) (root-even s) (root-in s v (eqb-false (firstRoot s) (fullSize s) z)) (omega arith)))
+
+  -- ---- reached headers, on an accepted walk
+  module _ (v : Volume s) (w : walk s ≡ accepted) where
+    reached-at : (p : ℕ) → IsReached s p → p + 16 ≤ fullSize s
+    reached-at p r = omega (arith, reached-room s v w p (r .bound) (r .depth) (r .reached))
+
+    seek-at : (want fuel p : ℕ) → IsReached s p → seek t want fuel p ≡ seek s want fuel p
+    unfolding seek
+    seek-at want zero p r = refl
+    seek-at want (suc fuel) p r =
+        rw (towards-at p (reached-at p r) want)
+        (cond-else (eqb want p) _ _ true
+        (λ o. cond-else (eqb (towards s want p) 0) _ _ false (λ z. seek-at want fuel (towards s want p) (towards-reached s want p r (eqb-false (towards s want p) 0 z)))))
+
+    is-at : (want : ℕ) → isReached t want ≡ isReached s want
+    unfolding isReached
+    is-at want =
+        rw (first-root, full)
+        (cond-else (eqb (firstRoot s) (fullSize s)) _ _ false
+        (λ z. seek-at want (fullSize s) (firstRoot s) (record { bound = fullSize s; depth = 1; reached = root (eqb-false (firstRoot s) (fullSize s) z) })))
+
+    -- what is asked of a header after it was reached
+    kind-reached : (p : ℕ) → isReached s p ≡ true → kind t p ≡ kind s p
+    kind-reached p e = kind-at p (reached-at p (is-reached s p e))
+
+    -- 29
+    link-at : (p : ℕ) → isReached s p ≡ true → badLink t p ≡ badLink s p
+    unfolding badLink
+    link-at p e =
+        let h : p + 16 ≤ fullSize s = reached-at p (is-reached s p e) in
+        rw (kind-at p h, info-at p h, dots-at p h, is-at (info s p), and-then (isReached s (info s p)) _ _ (λ r. ap (λ (k : ℕ). not (eqb k 0)) (kind-reached (info s p) r)))
+
+    links-same : links t ≡ links s
+    unfolding links
+    links-same =
+        let e : least (λ p. isReached t p && badLink t p) (fullSize s) ≡ least (λ p. isReached s p && badLink s p) (fullSize s) =
+        least-cong (λ p. isReached t p && badLink t p) (λ p. isReached s p && badLink s p) (fullSize s)
+        (λ p l. ap (λ (r : Bool). r && badLink t p) (is-at p) ∙ and-then (isReached s p) _ _ (λ r. link-at p r)) in
+        rw (full, e)
+
+    -- ---- find, entry and content
+    directory-at : (dir : ℕ) → isDirectory t dir ≡ isDirectory s dir
+    unfolding isDirectory
+    directory-at dir = rw (is-at dir, and-then (isReached s dir) _ _ (λ r. ap (λ (k : ℕ). eqb k 1) (kind-reached dir r)))
+
+    first-at : (dir : ℕ) → isDirectory s dir ≡ true → firstOf t dir ≡ firstOf s dir
+    unfolding firstOf
+    first-at dir d =
+        rw (first-root, full) (cond-else (eqb dir 0) _ _ _ (λ z. info-at dir (reached-at dir (dir-is s dir d (eqb-false dir 0 z)))))
+
+    match-at : (want : List ℕ) (fuel p : ℕ) → IsReached s p → matchFrom t want fuel p ≡ matchFrom s want fuel p
+    unfolding matchFrom
+    match-at want zero p r = refl
+    match-at want (suc fuel) p r =
+        rw (name-at p (reached-at p r), next-at p (reached-at p r))
+        (cond-else (sameList (name s p) want) _ _ p
+        (λ o. cond-else (eqb (next s p) 0) _ _ 0 (λ z. match-at want fuel (next s p) (record { bound = r .bound; depth = r .depth; reached = along (r .reached) (eqb-false (next s p) 0 z) }))))
+
+    described-at : (p : ℕ) → described t p ≡ described s p
+    unfolding described entryAt
+    described-at p =
+        rw (is-at p, name-length (p + 16))
+        (cond-then (isReached s p) _ _ _
+        (λ e.
+        let h : p + 16 ≤ fullSize s = reached-at p (is-reached s p e) in
+        rw (kind-at p h, executable-at p h, info-at p h, size-at p h, next-at p h)))
+
+    measured-at : (p : ℕ) → measured t p ≡ measured s p
+    unfolding measured
+    measured-at p =
+        rw (is-at p, and-then (isReached s p) _ _ (λ e. ap hasData (kind-reached p e)))
+        (cond-then (isReached s p && hasData (kind s p)) _ _ _
+        (λ e. ap granted (size-at p (reached-at p (is-reached s p (and-yes-l (isReached s p) (hasData (kind s p)) e))))))
+
+  -- ---- the requests
+  check-same : check t ≡ check s
+  unfolding check
+  check-same =
+      rw volume-same
+      (then-else (volume s) _ _
+      (λ a. rw (walk-same (volume-of s a)) (then-else (walk s) _ _ (links-same (volume-of s a)))))
+
+  found-same : (dir : ℕ) (want : List ℕ) → check s ≡ accepted → found t dir want ≡ found s dir want
+  unfolding found matchIn
+  found-same dir want a =
+      let parts = check-parts s a in
+      let v : Volume s = volume-of s (parts .0) in
+      rw (directory-at v (parts .1) dir, full)
+      (cond-then (isDirectory s dir) _ _ _
+      (λ d.
+      let e : cond (eqb (firstOf s dir) 0) 0 (matchFrom t want (fullSize s) (firstOf s dir)) ≡ cond (eqb (firstOf s dir) 0) 0 (matchFrom s want (fullSize s) (firstOf s dir)) =
+      cond-else (eqb (firstOf s dir) 0) _ _ 0 (λ z. match-at v (parts .1) want (fullSize s) (firstOf s dir) (first-reached s dir a d (eqb-false (firstOf s dir) 0 z))) in
+      rw (first-at v (parts .1) dir d, e)))
+
+  length-same : (p : ℕ) → contentLength t p ≡ contentLength s p
+  unfolding contentLength
+  length-same p =
+      rw check-same
+      (checked-then (check s) _ _ (λ a. let parts = check-parts s a in measured-at (volume-of s (parts .0)) (parts .1) p))
+
+  content-same : (p : ℕ) → content t p ≡ content s p
+  unfolding content
+  content-same p = rw (content-at p, length-same p) (go (contentLength s p) (λ n e. content-in s p n e .inside))
+    where
+      go : (x : Answer ℕ) → ((n : ℕ) → x ≡ granted n → contentAt s p + n ≤ fullSize s) → partOf t (contentAt s p) x ≡ partOf s (contentAt s p) x
+      go (granted n) h = part-at (contentAt s p) n (h n refl)
+      go (denied n q) h = refl
+
+-- No answer depends on the bytes past F, whether the image is accepted or refused.
+pub past-full : (s t : List ℕ) → SameFull s t → SameAnswers s t
+unfolding find entry
+past-full s t same =
+    record {
+      checks = check-same s t same;
+      finds = λ dir want. rw (check-same s t same) (checked-then (check s) _ _ (found-same s t same dir want));
+      entries = λ p.
+          rw (check-same s t same)
+          (checked-then (check s) _ _ (λ a. let parts = check-parts s a in described-at s t same (volume-of s (parts .0)) (parts .1) p));
+      lengths = length-same s t same;
+      contents = content-same s t same;
+    }
