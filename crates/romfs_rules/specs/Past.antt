@@ -1,11 +1,11 @@
--- Bytes past F never matter: no answer depends on them.
-use Prim.Native.Nat.{ℕ, zero, suc, _+_, _*_, _-_, _/_, _%_, _^_, _≤_, _<_, min, max}
+-- Bytes past F never matter: no answer depends on them, nor on how many there are.
+use Prim.Native.Nat.{ℕ, zero, suc, _+_, _*_, _-_, _/_, _%_, _≤_, _<_, min, max}
 use mathlib.Core.Path.{_≡_, refl, sym, ap, _∙_}
 use mathlib.Core.Logic.{_≢_}
 use mathlib.Core.Bool.{Bool, true, false, not, cond, _&&_, _||_}
 use mathlib.Core.List.{List}
 use native.Mathlib.Omega.{arith}
-use native.Mathlib.Decide.{ℕ-discrete, decLt}
+use native.Mathlib.Decide.{decLt}
 use native.Mathlib.Numerals.{sub-one}
 use borrow.Author.Tests.{ltb-false, lt-ltb, le-ltb, eqb-false}
 use lib.ListN.{length, getD, take, drop, length-take, length-drop}
@@ -19,7 +19,7 @@ use Rattle.romfs_rules.specs.Layout.{fullSize, zeroAt, nameLength, nameE
 use Rattle.romfs_rules.specs.Rules.{Verdict, accepted, refused, short21, magic22, size23, sum24, name25, overBound, badName, badSum, badInfo, badSize, badHeader, badNext, badFirst, badNesting, tooDeep, fault}
 use Rattle.romfs_rules.specs.Reached.{along, IsReached, Sound, root}
 use Rattle.romfs_rules.specs.Check.{andThen, visitList, visitEntry, visitAll, walk, towards, seek, isReached, badLink, links, volume, check}
-use Rattle.romfs_rules.specs.Answers.{Answer, granted, denied, checked, firstOf, matchFrom, matchIn, isDirectory, found, find, Entry, entryAt, described, entry, measured, contentLength, partOf, content}
+use Rattle.romfs_rules.specs.Answers.{Answer, granted, denied, checked, firstOf, matchFrom, matchIn, isDirectory, found, find, entryAt, described, entry, measured, contentLength, partOf, content}
 use Rattle.romfs_rules.specs.Facts.{and-yes-l, fault-sound, next-to, own-to, first-even, first-to}
 use Rattle.romfs_rules.specs.Visit.{entry-test}
 use Rattle.romfs_rules.specs.Walked.{Volume, volume-of, full-even, root-in, reached-room}
@@ -27,11 +27,11 @@ use Rattle.romfs_rules.specs.Seek.{is-reached, towards-reached}
 use Rattle.romfs_rules.specs.Theorems.{check-parts}
 use Rattle.romfs_rules.specs.Given.{dir-is, first-reached, content-in}
 
--- t holds the same first F bytes as s; the same first 32 where F is under that, for F itself is one of them, and 23 refuses both
+-- t holds the same first F bytes as s. Where F is under 32, which 23 refuses, the first 32 are the same, for F itself stands in them.
 abbrev pub SameFull : List ℕ → List ℕ → Type 0
 SameFull s t = take (max 32 (fullSize s)) t ≡ take (max 32 (fullSize s)) s
 
--- every request answers alike
+-- every request on t answers as on s
 pub record SameAnswers (s t : List ℕ) : Type 0 where
   pub checks : check t ≡ check s
   pub finds : (dir : ℕ) (want : List ℕ) → find t dir want ≡ find s dir want
@@ -39,7 +39,7 @@ pub record SameAnswers (s t : List ℕ) : Type 0 where
   pub lengths : (p : ℕ) → contentLength t p ≡ contentLength s p
   pub contents : (p : ℕ) → content t p ≡ content s p
 
--- ---- what stands behind a test matters only where the test comes to it
+-- ---- what a test keeps out need not be the same
 cond-then {ℓ} : {X : Type ℓ} (b : Bool) (x y z : X) → (b ≡ true → x ≡ y) → cond b x z ≡ cond b y z
 cond-then true x y z h = h refl
 cond-then false x y z h = refl
@@ -73,7 +73,7 @@ part-take m a n l h =
     let j : i < n = omega (arith, length-take n (drop a (take m l))) in
     getD-part a n (take m l) i j ∙ getD-take m l (a + i) 0 (omega arith) ∙ sym (getD-part a n l i j))
 
--- offsets of headers
+-- headers are at multiples of 16
 next-even : (s : List ℕ) (p : ℕ) → next s p % 16 ≡ 0
 unfolding next
 next-even s p = omega arith
@@ -196,7 +196,7 @@ module _ (s t : List ℕ) (same : SameFull s t) where
     unfolding towards
     towards-at want = rw (next-at, descends-at, info-at)
 
-    -- 26 to 28; the sum is of bytes inside F where the end is
+    -- 26 to 28: where the end is inside F, the sum is of bytes inside F
     sum-bad : (bound : ℕ) → bound ≤ fullSize s → overBound s bound p ≡ false → badSum t p ≡ badSum s p
     unfolding badSum overBound endOf
     sum-bad bound h o =
@@ -217,7 +217,7 @@ module _ (s t : List ℕ) (same : SameFull s t) where
     fault-at bound depth h = rw (header-at bound h, nesting-at bound, list-at)
 
   -- ---- the walk
-  -- lists with so many lists below them that may be visited
+  -- a list inside F is visited alike; left is how many lists may be below it
   abbrev Lists : ℕ → Type 0
   Lists left = (fuel p bound depth : ℕ) → left + depth ≡ 8 → p % 16 ≡ 0 → p < bound → bound ≤ fullSize s → visitList t (visitEntry t (fault t) left bound) fuel p ≡ visitList s (visitEntry s (fault s) left bound) fuel p
 
@@ -285,7 +285,7 @@ module _ (s t : List ℕ) (same : SameFull s t) where
         (cond-else (eqb (firstRoot s) (fullSize s)) _ _ false
         (λ z. seek-at want (fullSize s) (firstRoot s) (record { bound = fullSize s; depth = 1; reached = root (eqb-false (firstRoot s) (fullSize s) z) })))
 
-    -- what is asked of a header after it was reached
+    -- the type is asked only of a reached header
     kind-reached : (p : ℕ) → isReached s p ≡ true → kind t p ≡ kind s p
     kind-reached p e = kind-at p (reached-at p (is-reached s p e))
 
