@@ -20,10 +20,9 @@ use Rattle.tfs_rules.specs.Consistent.{File, Owner, inodeOf, contentOf, Owns, S
 use Rattle.tfs_rules.specs.Consistent as rules
 use Rattle.tfs_rules.specs.CheckMeans.{check-means, used-inode, owns-inside, need-le}
 use Rattle.tfs_rules.specs.Total.{three-blocks}
-use Rattle.tfs_laws.specs.Laws.{size-512}
-use Rattle.tfs_laws.specs.Sizes.{in-image, in-need}
-use Rattle.tfs_laws.specs.Views.{view-n, view-dir, view-map, inode-block}
-use Rattle.tfs_laws.specs.Stores.{length-block}
+use Rattle.tfs_facts.specs.Sizes.{in-image, in-need, size-512}
+use Rattle.tfs_facts.specs.Views.{view-n, view-dir, view-map, inode-block}
+use Rattle.tfs_facts.specs.Stores.{length-block}
 use Rattle.tfs_map.specs.Under.{Under}
 use Rattle.tfs_inode.specs.Claims.{claimList, file-claims, length-claims}
 use Rattle.tfs_runs.specs.Place.{at, Inside, at-place}

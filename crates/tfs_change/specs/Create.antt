@@ -11,13 +11,12 @@ use Rattle.lists.specs.Part.{part}
 use Rattle.tfs_rules.specs.Layout.{need, blocks, nameAllowed}
 use Rattle.tfs_rules.specs.View.{View, view, slotOf, freeSlot, freeBlocks}
 use Rattle.tfs_rules.specs.Check.{consistent, check}
-use Rattle.tfs_rules.specs.Consistent.{Consistent}
 use Rattle.tfs_rules.specs.CheckMeans.{check-means, need-le}
 use Rattle.tfs_rules.specs.Requests.{Answer, value, refused, granted, storeAll, freeFrom, chosen, placeStores, createStores, createView}
-use Rattle.tfs_laws.specs.Laws.{size-512}
-use Rattle.tfs_laws.specs.Views.{view-n}
-use Rattle.tfs_laws.specs.Entries.{allowed}
-use Rattle.tfs_laws.specs.Creates.{CreateGrant, length-cs, at-cs}
+use Rattle.tfs_facts.specs.Sizes.{size-512}
+use Rattle.tfs_facts.specs.Views.{view-n}
+use Rattle.tfs_facts.specs.Entries.{allowed}
+use Rattle.tfs_facts.specs.Chosen.{CreateGrant, Choice, choice}
 use Rattle.tfs_dir.specs.Find.{findName, findFree, slot-of, free-slot}
 use Rattle.tfs_map.specs.Under.{front, front-fits}
 use Rattle.tfs_map.specs.Free.{freeBelow, free-blocks, free-length}
@@ -136,8 +135,8 @@ module _ (img nm : List ℕ) (z : ℕ) where
 
       pub create-chosen : check 512 img ≡ consistent → (list rest : List ℕ) → list ≡ take (1 + w) (freeFrom (part 512 512 img) 0 n) ++ rest → Chosen img z w list
       create-chosen passed list rest picked =
-          let ok : Consistent 512 img = check-means 512 size-512 img .0 passed in
-          let many : length (chosen 512 v z) ≡ 1 + w = length-cs 512 size-512 img ok nm z gr ∙ ap (λ (x : ℕ). 1 + x) (sym want) in
+          let free : Choice 512 v z = choice 512 v (check-means 512 size-512 img .0 passed .sound) z (gr .room) in
+          let many : length (chosen 512 v z) ≡ 1 + w = free .length-cs ∙ ap (λ (x : ℕ). 1 + x) (sym want) in
           let is : list ≡ chosen 512 v z ++ rest = picked ∙ ap (λ (l : List ℕ). l ++ rest) chosen-is in
           let cut : take (1 + w - 0) list ≡ chosen 512 v z = front list (chosen 512 v z) rest (1 + w) is many in
           record {
@@ -149,7 +148,7 @@ module _ (img nm : List ℕ) (z : ℕ) where
                 rw cut
                 (placeable-below (chosen 512 v z) img
                 (λ i l.
-                let p = at-cs 512 size-512 img ok nm z gr i l in
+                let p = free .at-cs i l in
                 (p .above, subst (λ (x : ℕ). getD (chosen 512 v z) i 0 < x) (view-n 512 img) (p .below))));
           }
 

@@ -12,7 +12,7 @@ use Rattle.tfs_rules.specs.View.{View, view, inode, slotOf}
 use Rattle.tfs_rules.specs.Check.{consistent, check, fileClaims}
 use Rattle.tfs_rules.specs.Consistent.{File}
 use Rattle.tfs_rules.specs.Requests.{Answer, done, granted, storeAll, removeStores, removeView}
-use Rattle.tfs_laws.specs.Names.{slot-hit}
+use Rattle.tfs_facts.specs.Names.{slot-hit}
 use Rattle.tfs_dir.specs.Find.{findName, slot-of}
 use Rattle.tfs_map.specs.Under.{Under, front, front-fits}
 use Rattle.tfs_inode.specs.Claims.{claimList, length-claims}

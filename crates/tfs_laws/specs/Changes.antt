@@ -15,13 +15,14 @@ use Rattle.tfs_rules.specs.Check.{Verdict, consistent, broken, check}
 use Rattle.tfs_rules.specs.Consistent.{File, Sound, Consistent}
 use Rattle.tfs_rules.specs.CheckMeans.{check-means}
 use Rattle.tfs_rules.specs.Requests.{Answer, value, refused, granted, Outcome, checkedOutcome, stored, storeAll, createView, createStores, create, removeView, removeStores, remove, transferView, write}
-use Rattle.tfs_laws.specs.Views.{view-head}
+use Rattle.tfs_facts.specs.Views.{view-head}
 use Rattle.tfs_laws.specs.Writes.{Put, put, step}
 use Rattle.tfs_laws.specs.Places.{filesOf}
 use Rattle.tfs_laws.specs.WriteLists.{wr, request, putOf, request-answer, request-image, request-view, request-length, request-sound}
-use Rattle.tfs_laws.specs.Names.{handle-hit}
+use Rattle.tfs_facts.specs.Names.{handle-hit}
 use Rattle.tfs_laws.specs.Others.{consistent-to}
-use Rattle.tfs_laws.specs.Creates.{CreateGrant, grant-step, create-grant, create-consistent, create-contents}
+use Rattle.tfs_facts.specs.Chosen.{CreateGrant}
+use Rattle.tfs_laws.specs.Creates.{grant-step, create-grant, create-consistent, create-contents}
 use Rattle.tfs_laws.specs.Removes.{remove-consistent, remove-contents}
 use Rattle.tfs_laws.specs.WriteContents.{write-contents}
 use Rattle.tfs_laws.specs.Ledger.{change, made, gone, wrote}

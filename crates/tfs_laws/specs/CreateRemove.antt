@@ -18,10 +18,11 @@ use Rattle.tfs_rules.specs.Check.{consistent, fileClaims}
 use Rattle.tfs_rules.specs.Consistent.{File, Consistent}
 use Rattle.tfs_rules.specs.CheckMeans.{check-means}
 use Rattle.tfs_rules.specs.Requests.{Answer, done, refused, granted, Outcome, storeAll, create, createStores, chosen, removeView, removeStores, remove, stored}
-use Rattle.tfs_laws.specs.Views.{view-dir, view-map}
-use Rattle.tfs_laws.specs.MapBits.{In, in-at, Distinct, setBits-undo}
-use Rattle.tfs_laws.specs.Names.{slot-is, free-hit, claims-is, name-refl}
-use Rattle.tfs_laws.specs.Entries.{length-entry, allowed}
+use Rattle.tfs_facts.specs.Views.{view-dir, view-map}
+use Rattle.tfs_facts.specs.MapBits.{In, in-at, Distinct, setBits-undo}
+use Rattle.tfs_facts.specs.Names.{slot-is, free-hit, claims-is, name-refl}
+use Rattle.tfs_facts.specs.Entries.{length-entry, allowed}
+use Rattle.tfs_facts.specs.Chosen.{CreateGrant, Choice, choice}
 use Rattle.tfs_laws.specs.Creates as made
 use Rattle.tfs_laws.specs.Removes as removed
 use Rattle.tfs_laws.specs.Changes.{Passed, create-granted, create-image, remove-is}
@@ -54,7 +55,7 @@ module _ (B : ℕ) (sz : BlockSize B) (img : List ℕ) (ok : Consistent B img) (
   passed : Passed B img
   passed = check-means B sz img .1 ok
 
-  gr : made.CreateGrant B (view B img) nm z
+  gr : CreateGrant B (view B img) nm z
   gr = create-granted B img passed nm z g
 
   abbrev mid : List ℕ
@@ -110,11 +111,11 @@ module _ (B : ℕ) (sz : BlockSize B) (img : List ℕ) (ok : Consistent B img) (
       removed.new-map B sz mid ok-mid nm hit
       ∙ ap₂ (λ (m c : List ℕ). setBits m 0 c) (made.bits-is B sz img ok nm z gr) (ap (fileClaims B v′) at-slot ∙ claims-chosen)
       ∙ setBits-undo (chosen B v z) (v .map)
-      (distinct-of (chosen B v z) (λ m j a b e. omega (arith, made.rising B sz img ok nm z gr m j a b)))
+      (distinct-of (chosen B v z) (λ m j a b e. omega (arith, choice B v (ok .sound) z (gr .room) .rising m j a b)))
       (made.cs-mapped B sz img ok nm z gr)
       (λ b i.
       let r = in-at (chosen B v z) b i in
-      ap (mapBit (v .map)) (sym (r .2)) ∙ made.cs-free B sz img ok nm z gr (r .0) (r .1) .clear)
+      ap (mapBit (v .map)) (sym (r .2)) ∙ choice B v (ok .sound) z (gr .room) .cs-free (r .0) (r .1) .clear)
       ∙ view-map B img
 
 remove-yes : (B : ℕ) (v : View) (nm : List ℕ) → T (nameAllowed nm) → slotOf B v nm < slots B → removeView B v nm ≡ done

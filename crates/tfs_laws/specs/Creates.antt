@@ -20,24 +20,17 @@ use Rattle.tfs_rules.specs.Claims.{slotIn, owns-file}
 use Rattle.tfs_rules.specs.CheckMeans.{owns-inside, same-sym, need-le, range-in}
 use Rattle.tfs_rules.specs.Room.{free-count, FreeIn, free-member, free-rising}
 use Rattle.tfs_rules.specs.Requests.{Answer, value, refused, granted, Store, store, storeAll, zeroStores, freeFrom, chosen, placeStores, createStores, createView}
-use Rattle.tfs_laws.specs.Sizes.{in-image, in-need, in-block}
-use Rattle.tfs_laws.specs.Views.{view-n, view-head, view-map, view-dir, inode-block}
-use Rattle.tfs_laws.specs.Stores.{length-block, Fits, Away, length-storeAll, stored-away, stored-first, storeAll-append, zero-fits, zero-away, zeroed, block-same, length-setBlock, byte-at}
-use Rattle.tfs_laws.specs.MapBits.{length-setBits, In, in-dec, in-at, at-in, mapped-all, Mapped, bits-kept, bits-set}
+use Rattle.tfs_facts.specs.Sizes.{in-image, in-need, in-block}
+use Rattle.tfs_facts.specs.Views.{view-n, view-head, view-map, view-dir, inode-block}
+use Rattle.tfs_facts.specs.Stores.{length-block, Fits, Away, length-storeAll, stored-away, stored-first, storeAll-append, zero-fits, zero-away, zeroed, block-same, length-setBlock, byte-at}
+use Rattle.tfs_facts.specs.MapBits.{length-setBits, In, in-dec, in-at, at-in, mapped-all, Mapped, bits-kept, bits-set}
+use Rattle.tfs_facts.specs.Chosen.{CreateGrant, Picked, Choice, choice}
 use Rattle.tfs_laws.specs.Frame.{Frame, n-same, name-same, file-to, file-from, owns-to, owns-from}
-use Rattle.tfs_laws.specs.Names.{name-refl, name-trans, slot-hit, slot-miss, slot-is, free-hit, length-setSlot, slot-set, slot-unset}
+use Rattle.tfs_facts.specs.Names.{name-refl, name-trans, slot-hit, slot-miss, slot-is, free-hit, length-setSlot, slot-set, slot-unset}
 use Rattle.tfs_laws.specs.Others.{consistent-to, stands, formed-to, apart-to, small-to, inside-to, rest-to, contents-other}
 use Rattle.tfs_laws.specs.Removes.{low-inside, map-inside}
-use Rattle.tfs_laws.specs.Entries.{Allowed, allowed, length-entry, entry-inode, entry-name, entry-taken, entry-used, length-inode, inode-size, inode-number, inode-rest}
+use Rattle.tfs_facts.specs.Entries.{Allowed, allowed, length-entry, entry-inode, entry-name, entry-taken, entry-used, length-inode, inode-size, inode-number, inode-rest}
 use Rattle.tfs_laws.specs.Ledger.{change, made}
-
--- what a grant of create says
-pub record CreateGrant (B : ℕ) (v : View) (nm : List ℕ) (z : ℕ) : Type 0 where
-  pub named : T (nameAllowed nm)
-  pub small : z ≤ maxSize B
-  pub fresh : slots B ≤ slotOf B v nm
-  pub slot : freeSlot B v < slots B
-  pub room : 1 + need B z ≤ freeBlocks v
 
 -- a granted choice was not the refusal
 pub grant-step : (b : Bool) (num : ℕ) (a : Answer) → T (granted (cond b (refused num 0) a)) → T (not b) × T (granted a)
@@ -91,10 +84,7 @@ module _ (B : ℕ) (sz : BlockSize B) (img : List ℕ) (ok : Consistent B img) (
   good = allowed nm (gr .named)
 
   -- ---- the chosen blocks
-  pub length-cs : length cs ≡ 1 + need B z
-  unfolding chosen
-  length-cs =
-      length-take (1 + need B z) (freeFrom (v .map) 0 (v .n)) ∙ omega (arith, free-count v, gr .room)
+  open Choice (choice B (view B img) (ok .sound) z (gr .room)) using (length-cs, rising, at-cs)
 
   pub cs-is : cs ≡ i ∷ bs
   cs-is = drop-cons cs 0 0 (omega (arith, length-cs))
@@ -108,47 +98,14 @@ module _ (B : ℕ) (sz : BlockSize B) (img : List ℕ) (ok : Consistent B img) (
   few : need B z ≤ numbers B
   few = need-le B z (numbers B) pos (gr .small)
 
-  pub cs-free : (m : ℕ) → m < length cs → FreeIn (v .map) 0 (v .n) (getD cs m 0)
-  unfolding chosen
-  cs-free m h =
-      let l : m < 1 + need B z = omega (arith, length-cs) in
-      subst (FreeIn (v .map) 0 (v .n)) (sym (getD-take (1 + need B z) (freeFrom (v .map) 0 (v .n)) m 0 l))
-      (free-member (v .map) 0 (v .n) m (omega (arith, free-count v, gr .room)))
+  picked : (b : ℕ) → In b cs → Picked B v b
+  picked b p = let m = in-at cs b p in subst (Picked B v) (m .2) (at-cs (m .0) (m .1))
 
-  pub rising : (m j : ℕ) → m < j → j < length cs → getD cs m 0 < getD cs j 0
-  unfolding chosen
-  rising m j a h =
-      let l : j < 1 + need B z = omega (arith, length-cs) in
-      subst₂ (λ (x y : ℕ). x < y)
-      (sym (getD-take (1 + need B z) (freeFrom (v .map) 0 (v .n)) m 0 (omega arith)))
-      (sym (getD-take (1 + need B z) (freeFrom (v .map) 0 (v .n)) j 0 l))
-      (free-rising (v .map) 0 (v .n) m j a (omega (arith, free-count v, gr .room)))
-
-  pub record Picked (b : ℕ) : Type 0 where
-    pub below : b < v .n
-    pub above : 3 ≤ b
-    pub unowned : Owned B v b → ⊥
-
-  picked : (b : ℕ) → In b cs → Picked b
-  picked b p =
-      let m = in-at cs b p in
-      let f : FreeIn (v .map) 0 (v .n) b = subst (FreeIn (v .map) 0 (v .n)) (m .2) (cs-free (m .0) (m .1)) in
-      let l : b < v .n = omega (arith, f .high) in
-      let un : (b < 3) ⊎ Owned B v b → ⊥ = λ w. subst T (f .clear) (ok .sound .mapped b l .1 w) in
-      record {
-        below = l;
-        above = elim (decLt b 3) [ yes x ↦ absurd (un (inl x)) | no x ↦ omega arith ];
-        unowned = λ w. un (inr w);
-      }
-
-  pub at-cs : (m : ℕ) → m < length cs → Picked (getD cs m 0)
-  at-cs m h = picked (getD cs m 0) (at-in cs m h)
-
-  first : Picked i
+  first : Picked B v i
   first = at-cs 0 (omega (arith, length-cs))
 
-  at-b : (m : ℕ) → m < length bs → Picked (getD bs m 0)
-  at-b m h = subst Picked (sym (at-bs m)) (at-cs (suc m) (omega (arith, length-cs, length-bs)))
+  at-b : (m : ℕ) → m < length bs → Picked B v (getD bs m 0)
+  at-b m h = subst (Picked B v) (sym (at-bs m)) (at-cs (suc m) (omega (arith, length-cs, length-bs)))
 
   -- ---- the image after
   abbrev ino : List ℕ
@@ -251,7 +208,7 @@ module _ (B : ℕ) (sz : BlockSize B) (img : List ℕ) (ok : Consistent B img) (
   -- "all content blocks wholly zero"
   new-zero : (m : ℕ) → m < length bs → block B new (getD bs m 0) ≡ zeros B
   new-zero m h =
-      let p : Picked (getD bs m 0) = at-b m h in
+      let p : Picked B v (getD bs m 0) = at-b m h in
       ap (λ (x : List ℕ). block B x (getD bs m 0)) new-is
       ∙ stored-away B lasts a0 (getD bs m 0) fits-a0
       ((λ e. omega (arith, rising 0 (suc m) (omega arith) (omega (arith, length-cs, length-bs)), at-bs m)), ((λ e. omega (arith, p .above)), ((λ e. omega (arith, p .above)), tt)))
@@ -445,7 +402,7 @@ module _ (B : ℕ) (sz : BlockSize B) (img : List ℕ) (ok : Consistent B img) (
         inside = λ t k f.
             each (λ t. k < need B (size v′ t) → Inside v′ (number v′ t k))
             (λ l.
-            let p : Picked (getD bs k 0) = at-b k (omega (arith, length-bs, needed k l)) in
+            let p : Picked B v (getD bs k 0) = at-b k (omega (arith, length-bs, needed k l)) in
             subst (Inside v′) (sym (new-at k (needed k l))) (record { low = p .above; high = subst (λ (n : ℕ). getD bs k 0 < n) (sym (n-same B img new s frame)) (p .below) }))
             (λ t d f. inside-to B img new s frame (ok .sound) t d f k) t f;
         rest = λ t k f.

@@ -16,7 +16,7 @@ use Rattle.tfs_rules.specs.Consistent.{Consistent, FirstBroken}
 use Rattle.tfs_rules.specs.CheckMeans.{check-means, check-breaks}
 use Rattle.tfs_rules.specs.Requests.{Answer, done, value, refused, granted, checked, format, checkAnswer, openAnswer, create, remove, read, write, listAnswer, freeAnswer}
 use Rattle.tfs_rules.specs.Total.{inodeCount, contentCount, adds-up}
-use Rattle.tfs_laws.specs.Views.{view-n}
+use Rattle.tfs_facts.specs.Views.{view-n}
 use Rattle.tfs_laws.specs.Changes.{Change, creates, removes, writes, perform, refused-keeps, Changed, changed, stays-consistent}
 use Rattle.tfs_laws.specs.Formats.{format-refused, format-grants, format-consistent, format-empty, format-past, format-length}
 use Rattle.tfs_laws.specs.Reads.{ReadLaw, read-law, read-refused}
@@ -24,7 +24,7 @@ use Rattle.tfs_laws.specs.Handles.{Means, HandleRefused, open-means, ope
 use Rattle.tfs_laws.specs.Kept.{KeptLaw, create-kept, remove-kept, write-kept}
 use Rattle.tfs_laws.specs.Tail.{TailKept, tail-kept, SameVolume, TailLaw, tail-unread}
 use Rattle.tfs_laws.specs.Ignored.{SameRead, IgnoredLaw, ignored}
-use Rattle.tfs_laws.specs.Laws.{size-512}
+use Rattle.tfs_facts.specs.Sizes.{size-512}
 
 -- ---- demand 1
 -- "Every request but format refuses a volume that breaks the rules, with the first fault and its place",

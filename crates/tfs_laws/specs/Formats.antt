@@ -22,11 +22,11 @@ use Rattle.tfs_rules.specs.Check.{tooShort}
 use Rattle.tfs_rules.specs.Consistent.{File, Sound, Consistent}
 use Rattle.tfs_rules.specs.Claims.{slotIn, owns-file}
 use Rattle.tfs_rules.specs.Requests.{done, granted, Outcome, Store, store, storeAll, refuse, formatStores, format}
-use Rattle.tfs_laws.specs.Views.{view-head, view-map, view-dir}
-use Rattle.tfs_laws.specs.Stores.{length-setBlock, Fits, Away, length-storeAll, stored-first}
-use Rattle.tfs_laws.specs.Entries.{length-pad, zeros-zero}
+use Rattle.tfs_facts.specs.Views.{view-head, view-map, view-dir}
+use Rattle.tfs_facts.specs.Stores.{length-setBlock, Fits, Away, length-storeAll, stored-first}
+use Rattle.tfs_facts.specs.Entries.{length-pad, zeros-zero}
 use Rattle.tfs_laws.specs.Others.{stands-not}
-use Rattle.tfs_laws.specs.MapBits.{In, Mapped, length-setBits, bits-kept, bits-set}
+use Rattle.tfs_facts.specs.MapBits.{In, Mapped, length-setBits, bits-kept, bits-set}
 
 -- ---- zeros
 zeros-byte : (n i : ℕ) → getD (zeros n) i 0 ≡ 0

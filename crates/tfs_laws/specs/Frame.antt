@@ -14,10 +14,10 @@ use Rattle.tfs_rules.specs.View.{View, view, inodeAt, free, used, inode, name, 
 use Rattle.tfs_rules.specs.Consistent.{File, Owner, inodeOf, contentOf, Owns, Inside, Sound}
 use Rattle.tfs_rules.specs.Claims.{slotIn, owns-file}
 use Rattle.tfs_rules.specs.CheckMeans.{in-range}
-use Rattle.tfs_laws.specs.Sizes.{in-need, in-block}
-use Rattle.tfs_laws.specs.Views.{view-n, view-dir, inodes-at}
+use Rattle.tfs_facts.specs.Sizes.{in-need, in-block}
+use Rattle.tfs_facts.specs.Views.{view-n, view-dir, inodes-at}
 use Rattle.tfs_laws.specs.Places.{blocks-eq, file-at}
-use Rattle.tfs_laws.specs.Stores.{block-byte}
+use Rattle.tfs_facts.specs.Stores.{block-byte}
 
 pub record Frame (B : ℕ) (img new : List ℕ) (s : ℕ) : Type 0 where
   pub long : length new ≡ length img

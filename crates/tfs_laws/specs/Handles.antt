@@ -18,8 +18,9 @@ use Rattle.tfs_rules.specs.Requests.{Answer, value, refused, granted, Outcome, 
 use Rattle.tfs_laws.specs.Places.{owner-slot}
 use Rattle.tfs_laws.specs.WriteLists.{wr, request, request-answer}
 use Rattle.tfs_laws.specs.Frame.{inode-same, file-from}
-use Rattle.tfs_laws.specs.Names.{slot-hit, handle-hit, handle-is}
+use Rattle.tfs_facts.specs.Names.{slot-hit, handle-hit, handle-is}
 use Rattle.tfs_laws.specs.Creates.{value-step, same-value}
+use Rattle.tfs_facts.specs.Chosen.{CreateGrant}
 use Rattle.tfs_laws.specs.Creates as made
 use Rattle.tfs_laws.specs.Removes as removed
 use Rattle.tfs_laws.specs.CreateRemove.{at-slot, hit}
@@ -117,7 +118,7 @@ module _ (B : ℕ) (sz : BlockSize B) (img : List ℕ) (ok : Consistent B img) w
     yes-create : T (granted (create B img nm z .answer))
     yes-create = subst (λ (a : Answer). T (granted a)) (sym e) tt
 
-    gr : made.CreateGrant B v nm z
+    gr : CreateGrant B v nm z
     gr = create-granted B img passed nm z yes-create
 
     abbrev new : List ℕ

@@ -19,12 +19,12 @@ use Rattle.tfs_rules.specs.Layout.{BlockSize, slots, numbers, maxSize, need, bl
 use Rattle.tfs_rules.specs.View.{View, view, viewN, inodeAt, free, used, inode, name, size, number, slotOf, slotWith, freeSlot, place, freeBlocks}
 use Rattle.tfs_rules.specs.Check.{Verdict, consistent, broken, found, tooShort, badMagic, badLabel, repeats, badSlot, badNumber, badInode, fileClaims, claimsTo, claims, claimedTwice, badBit, checkView, check, times}
 use Rattle.tfs_rules.specs.Requests.{Answer, value, refused, unused, file, granted, checked, checkedOutcome, checkedFilled, readBuffer, openView, openAnswer, freeFrom, chosen, createView, create, removeView, remove, counted, transferView, read, write, listView, listAnswer, freeAnswer}
-use Rattle.tfs_laws.specs.Views.{view-n, view-head, view-map, view-dir}
+use Rattle.tfs_facts.specs.Views.{view-n, view-head, view-map, view-dir}
 use Rattle.tfs_rules.specs.Consistent.{Inside, Sound}
 use Rattle.tfs_rules.specs.CheckMeans.{check-means}
-use Rattle.tfs_laws.specs.Sizes.{in-block}
+use Rattle.tfs_facts.specs.Sizes.{in-block}
 use Rattle.tfs_laws.specs.Places.{blocks-eq, position}
-use Rattle.tfs_laws.specs.Stores.{block-byte}
+use Rattle.tfs_facts.specs.Stores.{block-byte}
 
 -- two images that differ at most in what the rules ignore
 pub record SameRead (B : ℕ) (a b : List ℕ) : Type 0 where

@@ -22,15 +22,15 @@ use Rattle.tfs_rules.specs.CheckMeans.{check-means, owns-inside}
 use Rattle.tfs_rules.specs.Total.{three-blocks}
 use Rattle.tfs_rules.specs.Room.{FreeIn, free-member}
 use Rattle.tfs_rules.specs.Requests.{granted, Outcome, checkedOutcome, Store, store, storeAll, zeroStores, freeFrom, chosen, placeStores, createStores, create, removeStores, remove, write}
-use Rattle.tfs_laws.specs.Sizes.{after-block}
-use Rattle.tfs_laws.specs.Views.{view-n, view-head, view-map, view-dir}
-use Rattle.tfs_laws.specs.Stores.{Fits, Away, length-block, stored-away, stored-first, zero-fits, zero-away}
-use Rattle.tfs_laws.specs.MapBits.{In, in-at, mapped-all, length-setBits, bits-kept}
+use Rattle.tfs_facts.specs.Sizes.{after-block}
+use Rattle.tfs_facts.specs.Views.{view-n, view-head, view-map, view-dir}
+use Rattle.tfs_facts.specs.Stores.{Fits, Away, length-block, stored-away, stored-first, zero-fits, zero-away}
+use Rattle.tfs_facts.specs.MapBits.{In, in-at, mapped-all, length-setBits, bits-kept}
 use Rattle.tfs_laws.specs.WriteLists.{wr, request, request-view}
-use Rattle.tfs_laws.specs.Names.{slot-hit, length-setSlot, claims-owner}
-use Rattle.tfs_laws.specs.Entries.{length-pad, Allowed, allowed, length-entry}
+use Rattle.tfs_facts.specs.Names.{slot-hit, length-setSlot, claims-owner}
+use Rattle.tfs_facts.specs.Entries.{length-pad, Allowed, allowed, length-entry}
 use Rattle.tfs_laws.specs.Removes.{map-inside}
-use Rattle.tfs_laws.specs.Creates.{CreateGrant}
+use Rattle.tfs_facts.specs.Chosen.{CreateGrant}
 use Rattle.tfs_laws.specs.Changes.{Change, creates, removes, writes, perform, create-image, create-granted, remove-image, remove-granted, refused-keeps}
 use Rattle.tfs_laws.specs.Formats.{fits-up, stored-at}
 

@@ -10,13 +10,11 @@ use Rattle.tfs_rules.specs.View.{view, contents}
 use Rattle.tfs_rules.specs.Consistent.{Consistent}
 use Rattle.tfs_rules.specs.CheckMeans.{check-means}
 use Rattle.tfs_rules.specs.Requests.{granted, create}
+use Rattle.tfs_facts.specs.Sizes.{size-512}
 use Rattle.tfs_laws.specs.WriteLists.{Write, WritesLaw, writes-law, PiecesLaw, pieces-law}
 use Rattle.tfs_laws.specs.CreateRemove.{BackLaw, back-law}
 use Rattle.tfs_laws.specs.Changes.{Change, perform, nameOn}
 use Rattle.tfs_laws.specs.Orders.{BothOrders, orders-law}
-
-pub size-512 : BlockSize 512
-size-512 = record { large = lit≤ tt; whole = refl }
 
 -- 1. any list of writes, refused ones included
 pub law-writes : (img : List ℕ) → Consistent 512 img → (ws : List Write) → WritesLaw 512 img ws

@@ -11,7 +11,7 @@ use Rattle.lists.specs.Table.{table}
 use Rattle.tfs_rules.specs.Layout.{sameName}
 use Rattle.tfs_rules.specs.View.{Contents}
 use Rattle.tfs_rules.specs.CheckMeans.{same-sym}
-use Rattle.tfs_laws.specs.Names.{name-trans}
+use Rattle.tfs_facts.specs.Names.{name-trans}
 
 -- what stands under a name becomes g of it
 abbrev pub change : List ℕ → (Option (List ℕ) → Option (List ℕ)) → Contents → Contents

@@ -1,17 +1,11 @@
-pub mod Sizes
-pub mod Views
 pub mod Content
 pub mod Writes
 pub mod Places
 pub mod WriteLists
-pub mod Stores
-pub mod MapBits
 pub mod Frame
-pub mod Names
 pub mod Ledger
 pub mod Others
 pub mod Removes
-pub mod Entries
 pub mod Creates
 pub mod WriteContents
 pub mod Changes

@@ -15,7 +15,7 @@ use Rattle.tfs_rules.specs.CheckMeans.{check-means, same-sym}
 use Rattle.tfs_rules.specs.Requests.{granted, storeAll, createStores, create, removeStores, remove, write}
 use Rattle.tfs_laws.specs.WriteLists.{wr, request, request-view}
 use Rattle.tfs_laws.specs.Frame.{Frame, inode-same, name-same, file-to}
-use Rattle.tfs_laws.specs.Names.{slot-hit, handle-hit, handle-is, free-hit}
+use Rattle.tfs_facts.specs.Names.{slot-hit, handle-hit, handle-is, free-hit}
 use Rattle.tfs_laws.specs.Creates as made
 use Rattle.tfs_laws.specs.Removes as removed
 use Rattle.tfs_laws.specs.Ledger.{change, change-comm}

@@ -15,10 +15,10 @@ use Rattle.lists.specs.Word.{word}
 use Rattle.tfs_rules.specs.Layout.{slots, block, sameName, need, maxSize, numbers, volumeName, magic}
 use Rattle.tfs_rules.specs.View.{View, view, free, used, name, size, number, slotOf, content, contents}
 use Rattle.tfs_rules.specs.Consistent.{File, Inside, Sound, Consistent}
-use Rattle.tfs_laws.specs.Views.{view-head}
+use Rattle.tfs_facts.specs.Views.{view-head}
 use Rattle.tfs_laws.specs.Content.{standing, contents-at}
 use Rattle.tfs_laws.specs.Frame.{Frame, n-same, free-same, used-same, name-same, size-same, number-same, file-to, file-from, content-same}
-use Rattle.tfs_laws.specs.Names.{slot-hit, slot-miss, slot-is}
+use Rattle.tfs_facts.specs.Names.{slot-hit, slot-miss, slot-is}
 
 -- a sound view over the same block 0 makes a consistent volume
 pub consistent-to : (B : ℕ) (img new : List ℕ) → Consistent B img → length new ≡ length img → block B new 0 ≡ block B img 0 → Sound B (view B new) → Consistent B new

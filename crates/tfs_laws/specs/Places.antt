@@ -14,8 +14,8 @@ use Rattle.tfs_rules.specs.Layout.{slots, need, blocks, block, slot, slotInode,
 use Rattle.tfs_rules.specs.View.{View, view, viewN, inodeAt, free, inode, size, number, place}
 use Rattle.tfs_rules.specs.Consistent.{File, Owner, inodeOf, contentOf, Owns, Inside, Sound}
 use Rattle.tfs_rules.specs.CheckMeans.{in-range}
-use Rattle.tfs_laws.specs.Sizes.{split-block, split-offset, rejoin, in-need, in-block, in-image}
-use Rattle.tfs_laws.specs.Views.{view-n, view-dir, free-inode, has}
+use Rattle.tfs_facts.specs.Sizes.{split-block, split-offset, rejoin, in-need, in-block, in-image}
+use Rattle.tfs_facts.specs.Views.{view-n, view-dir, free-inode, has}
 use Rattle.tfs_laws.specs.Writes.{Put, Files, Laid, effect, step, in-file, length-step, step-other}
 
 abbrev pub filesOf : ℕ → View → Files

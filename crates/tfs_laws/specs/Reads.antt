@@ -16,7 +16,7 @@ use Rattle.tfs_rules.specs.View.{View, view, inode, size, slotWith, place, cont
 use Rattle.tfs_rules.specs.Check.{Verdict, consistent, broken, check}
 use Rattle.tfs_rules.specs.Consistent.{File, Sound}
 use Rattle.tfs_rules.specs.Requests.{Answer, value, refused, granted, checkedFilled, counted, transferView, readBuffer, read}
-use Rattle.tfs_laws.specs.Names.{handle-hit, handle-is}
+use Rattle.tfs_facts.specs.Names.{handle-hit, handle-is}
 use Rattle.tfs_laws.specs.Creates.{value-step, same-value}
 
 -- ---- a stretch of a table

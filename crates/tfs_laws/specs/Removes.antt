@@ -18,13 +18,13 @@ use Rattle.tfs_rules.specs.Consistent.{File, Owner, inodeOf, contentOf, Owns, O
 use Rattle.tfs_rules.specs.Claims.{slotIn, owns-file}
 use Rattle.tfs_rules.specs.CheckMeans.{owns-inside, same-sym}
 use Rattle.tfs_rules.specs.Requests.{Store, store, storeAll, removeStores}
-use Rattle.tfs_laws.specs.Sizes.{in-image}
-use Rattle.tfs_laws.specs.Views.{view-n, view-head, view-map, view-dir}
+use Rattle.tfs_facts.specs.Sizes.{in-image}
+use Rattle.tfs_facts.specs.Views.{view-n, view-head, view-map, view-dir}
 use Rattle.tfs_laws.specs.Content.{standing, contents-at}
-use Rattle.tfs_laws.specs.Stores.{length-block, Fits, Away, length-storeAll, stored-away, stored-first, block-same, length-setBlock}
-use Rattle.tfs_laws.specs.MapBits.{in-map, length-setBits, In, in-dec, mapped-all, Mapped, bits-kept, bits-set}
+use Rattle.tfs_facts.specs.Stores.{length-block, Fits, Away, length-storeAll, stored-away, stored-first, block-same, length-setBlock}
+use Rattle.tfs_facts.specs.MapBits.{in-map, length-setBits, In, in-dec, mapped-all, Mapped, bits-kept, bits-set}
 use Rattle.tfs_laws.specs.Frame.{Frame, n-same, slot-same, free-same, used-same, inode-same, name-same, size-same, number-same, file-to, file-from, owns-to, owns-from, content-same}
-use Rattle.tfs_laws.specs.Names.{name-refl, name-trans, slot-hit, slot-miss, slot-is, length-setSlot, slot-set, slot-unset, claims-owner, owner-claims}
+use Rattle.tfs_facts.specs.Names.{name-refl, name-trans, slot-hit, slot-miss, slot-is, length-setSlot, slot-set, slot-unset, claims-owner, owner-claims}
 use Rattle.tfs_laws.specs.Others.{consistent-to, stands-not, formed-to, apart-to, small-to, inside-to, rest-to, contents-other}
 use Rattle.tfs_laws.specs.Ledger.{change, gone}
 

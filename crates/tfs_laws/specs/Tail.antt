@@ -18,12 +18,12 @@ use Rattle.tfs_rules.specs.Check.{Verdict, consistent, broken, check, checkView
 use Rattle.tfs_rules.specs.Consistent.{Sound}
 use Rattle.tfs_rules.specs.CheckMeans.{check-means}
 use Rattle.tfs_rules.specs.Requests.{Answer, done, value, granted, Outcome, Filled, checked, checkedOutcome, checkedFilled, refuse, Store, stored, storeAll, formatStores, format, checkAnswer, openView, openAnswer, createStores, createView, create, removeStores, removeView, remove, counted, transferView, readBuffer, read, writeImage, write, listView, listAnswer, freeAnswer}
-use Rattle.tfs_laws.specs.Sizes.{after-block, in-image, in-block}
-use Rattle.tfs_laws.specs.Views.{view-n}
+use Rattle.tfs_facts.specs.Sizes.{after-block, in-image, in-block}
+use Rattle.tfs_facts.specs.Views.{view-n}
 use Rattle.tfs_laws.specs.Places.{blocks-eq, filesOf, position}
 use Rattle.tfs_laws.specs.Writes.{step-other}
 use Rattle.tfs_laws.specs.WriteLists.{wr, request, request-image, request-length, putOf}
-use Rattle.tfs_laws.specs.Stores.{Fits, length-setBlock, length-block, length-storeAll}
+use Rattle.tfs_facts.specs.Stores.{Fits, length-setBlock, length-block, length-storeAll}
 use Rattle.tfs_laws.specs.Formats.{fits-up, stored-past, format-fits, by-format, formatted-past, formatted-length}
 use Rattle.tfs_laws.specs.Creates.{create-grant}
 use Rattle.tfs_laws.specs.Changes.{remove-is, remove-granted}

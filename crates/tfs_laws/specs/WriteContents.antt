@@ -17,7 +17,7 @@ use Rattle.tfs_rules.specs.CheckMeans.{same-sym}
 use Rattle.tfs_laws.specs.Content.{standing, contents-at, contents-in, standing-map, content-by}
 use Rattle.tfs_laws.specs.Writes.{Put, put, Files, effect, step, covers, covered, uncovered, Covered, step-byte}
 use Rattle.tfs_laws.specs.Places.{filesOf, laid, view-kept}
-use Rattle.tfs_laws.specs.Names.{name-refl, name-trans, slot-hit, slot-is}
+use Rattle.tfs_facts.specs.Names.{name-refl, name-trans, slot-hit, slot-is}
 use Rattle.tfs_laws.specs.Ledger.{change, over, wrote}
 
 module _ (B : ℕ) (pos : 0 < B) (img : List ℕ) (ok : Sound B (view B img)) (s : ℕ) (f : File B (view B img) s) (o : ℕ) (bs : List ℕ) where

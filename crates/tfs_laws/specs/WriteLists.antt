@@ -19,7 +19,7 @@ use Rattle.tfs_rules.specs.View.{View, view, free, inode, size, slotWith, slotO
 use Rattle.tfs_rules.specs.Check.{Verdict, consistent, broken, check, checkView, tooShort}
 use Rattle.tfs_rules.specs.Consistent.{Sound}
 use Rattle.tfs_rules.specs.Requests.{Answer, done, value, unused, file, refused, granted, Outcome, checkedOutcome, counted, transferView, writeImage, write}
-use Rattle.tfs_laws.specs.Views.{inodes-out}
+use Rattle.tfs_facts.specs.Views.{inodes-out}
 use Rattle.tfs_laws.specs.Content.{standing, contents-at, contents-in, standing-map, content-by}
 use Rattle.tfs_laws.specs.Writes.{Put, put, Files, Laid, effect, step, run, covers, lastOf, last-write, rest-kept, length-step, joined, step-join, take-join}
 use Rattle.tfs_laws.specs.Places.{filesOf, laid, view-kept}

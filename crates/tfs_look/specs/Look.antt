@@ -16,7 +16,7 @@ use Rattle.tfs_rules.specs.View.{View, view, free, inode, name, size, slotOf, f
 use Rattle.tfs_rules.specs.Check.{consistent, check}
 use Rattle.tfs_rules.specs.Consistent.{File}
 use Rattle.tfs_rules.specs.Requests.{Answer, value, refused, unused, file, openView, listView}
-use Rattle.tfs_laws.specs.Views.{view-n}
+use Rattle.tfs_facts.specs.Views.{view-n}
 use Rattle.tfs_dir.specs.Find.{findName, slot-of}
 use Rattle.tfs_map.specs.Free.{freeBelow, free-blocks}
 use Rattle.tfs_answers.specs.Ready.{dir-is, map-is, size-is, inode-in}

@@ -9,9 +9,9 @@ use Rattle.tfs_rules.specs.Layout.{slots, block, setBlock, setBits, setSlot}
 use Rattle.tfs_rules.specs.View.{view, slotOf}
 use Rattle.tfs_rules.specs.Check.{fileClaims}
 use Rattle.tfs_rules.specs.Requests.{Store, store, storeAll, removeStores}
-use Rattle.tfs_laws.specs.Views.{view-map, view-dir}
-use Rattle.tfs_laws.specs.Stores.{length-block, block-other}
-use Rattle.tfs_laws.specs.Names.{length-setSlot}
+use Rattle.tfs_facts.specs.Views.{view-map, view-dir}
+use Rattle.tfs_facts.specs.Stores.{length-block, block-other}
+use Rattle.tfs_facts.specs.Names.{length-setSlot}
 
 -- the directory with slot s free, then the map with the blocks free
 unfoldable pub eraseStores : ℕ → List ℕ → ℕ → List ℕ → List Store

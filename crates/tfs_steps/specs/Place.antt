@@ -8,10 +8,10 @@ use native.Mathlib.Omega.{arith}
 use Rattle.tfs_rules.specs.Layout.{blocks, block, setBlock, setBits, setSlot, entry, inodeBlock}
 use Rattle.tfs_rules.specs.View.{view}
 use Rattle.tfs_rules.specs.Requests.{storeAll, zeroStores, placeStores}
-use Rattle.tfs_laws.specs.Stores.{Fits, length-block, length-setBlock, block-other, length-storeAll, stored-away, storeAll-append, zero-fits, zero-away}
-use Rattle.tfs_laws.specs.MapBits.{length-setBits}
-use Rattle.tfs_laws.specs.Views.{view-map, view-dir}
-use Rattle.tfs_laws.specs.Entries.{length-inode}
+use Rattle.tfs_facts.specs.Stores.{Fits, length-block, length-setBlock, block-other, length-storeAll, stored-away, storeAll-append, zero-fits, zero-away}
+use Rattle.tfs_facts.specs.MapBits.{length-setBits}
+use Rattle.tfs_facts.specs.Views.{view-map, view-dir}
+use Rattle.tfs_facts.specs.Entries.{length-inode}
 use Rattle.tfs_runs.specs.Place.{Inside}
 
 -- every block is a content block, has a bit in the map, and lies inside an image of len bytes

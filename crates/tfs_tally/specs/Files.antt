@@ -13,8 +13,8 @@ use Rattle.tfs_rules.specs.Layout.{blocks, block, slot, slotInode, slotFree, sl
 use Rattle.tfs_rules.specs.View.{View, view, viewN, free, used, inode}
 use Rattle.tfs_rules.specs.Check.{repeats, badSlot, badInode, fileClaims}
 use Rattle.tfs_rules.specs.Consistent.{Inside}
-use Rattle.tfs_laws.specs.Sizes.{in-image}
-use Rattle.tfs_laws.specs.Views.{view-n, inode-block}
+use Rattle.tfs_facts.specs.Sizes.{in-image}
+use Rattle.tfs_facts.specs.Views.{view-n, inode-block}
 use Rattle.tfs_inode.specs.Claims.{claimList, file-claims}
 use Rattle.tfs_inode.specs.Wrong.{inodeWrong, bad-inode}
 

@@ -14,7 +14,7 @@ use Rattle.tfs_rules.specs.View.{View, view, inode, size, slotWith, place}
 use Rattle.tfs_rules.specs.Check.{consistent, check}
 use Rattle.tfs_rules.specs.Consistent.{File}
 use Rattle.tfs_rules.specs.Requests.{refused, value, counted, transferView, readBuffer, writeImage}
-use Rattle.tfs_laws.specs.Names.{handle-hit}
+use Rattle.tfs_facts.specs.Names.{handle-hit}
 use Rattle.tfs_dir.specs.Find.{findHandle, slot-with}
 use Rattle.tfs_inode.specs.Claims.{claimList, length-claims}
 use Rattle.tfs_runs.specs.Place.{at, Inside}

@@ -9,7 +9,7 @@ use Rattle.lists.specs.Name.{zeros}
 use Rattle.lists.specs.Part.{part, withPart, length-part, length-with, part-with, part-with-other, getD-part}
 use Rattle.tfs_rules.specs.Layout.{block, setBlock}
 use Rattle.tfs_rules.specs.Requests.{Store, store, storeAll, zeroStores}
-use Rattle.tfs_laws.specs.Sizes.{apart-blocks}
+use Rattle.tfs_facts.specs.Sizes.{apart-blocks}
 
 -- ---- one store
 module _ (B : ℕ) (img : List ℕ) (b : ℕ) (bs : List ℕ) (e : length bs ≡ B) (h : b * B + B ≤ length img) where

@@ -8,7 +8,8 @@ use native.Mathlib.Decide.{decLt}
 use native.Mathlib.Nat.{div-add-mod', mod-lt, mul-le-mul-right, le-div-iff-mul-le, div-mul-le-self, suc-mul, le-trans, lt-of-le-of-lt}
 use lib.Arith.{digits-lt, digits-div, digits-mod}
 use lib.ListN.{length}
-use Rattle.tfs_rules.specs.Layout.{need, blocks}
+use lib.Dec.{lit≤}
+use Rattle.tfs_rules.specs.Layout.{BlockSize, need, blocks}
 
 module _ (B : ℕ) (pos : 0 < B) where
   -- a place says its block and its offset
@@ -42,3 +43,6 @@ unfolding blocks
 in-image B b img h =
     let k : b < length img / B = omega arith in
     omega (arith, after-block B b (length img / B) k, div-mul-le-self (length img) B)
+
+pub size-512 : BlockSize 512
+size-512 = record { large = lit≤ tt; whole = refl }

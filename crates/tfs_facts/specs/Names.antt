@@ -18,9 +18,8 @@ use Rattle.tfs_rules.specs.Check.{fileClaims}
 use Rattle.tfs_rules.specs.Consistent.{File, Owner, inodeOf, contentOf, Owns, Sound}
 use Rattle.tfs_rules.specs.Claims.{slotIn}
 use Rattle.tfs_rules.specs.CheckMeans.{same-sym}
-use Rattle.tfs_laws.specs.Sizes.{apart-blocks}
-use Rattle.tfs_laws.specs.Places.{owner-slot}
-use Rattle.tfs_laws.specs.MapBits.{In, in-at, at-in}
+use Rattle.tfs_facts.specs.Sizes.{apart-blocks}
+use Rattle.tfs_facts.specs.MapBits.{In, in-at, at-in}
 
 -- ---- the same name
 pub name-refl : (a : List ℕ) → T (sameName a a)
@@ -72,7 +71,7 @@ module _ (B : ℕ) (v : View) (h : ℕ) where
       least-is g (slots B) s (f .slot) (and-of (not (free v s)) (eqb (inode v s) h) (f .taken) (eqb-of e))
       (λ i l. not-T (g i) (λ t.
       let fi : File B v i = record { slot = omega (arith, f .slot); taken = and-l (not (free v i)) _ t } in
-      let z : i ≡ s = owner-slot i s (ok .once h (inodeOf i) (inodeOf s) (fi, eqb→eq (inode v i) h (and-r (not (free v i)) _ t)) (f, e)) in
+      let z : i ≡ s = ap slotIn (ok .once h (inodeOf i) (inodeOf s) (fi, eqb→eq (inode v i) h (and-r (not (free v i)) _ t)) (f, e)) in
       omega arith))
 
 -- ---- the lowest free slot

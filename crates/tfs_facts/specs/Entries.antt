@@ -16,7 +16,7 @@ use Rattle.lists.specs.Part.{part}
 use Rattle.tfs_rules.specs.Layout.{slotInode, nameField, slotName, slotFree, slotUsed, nameFormed, inRange, entry, inodeSize, inodeNumber, inodeBlock, labelAllowed, nameAllowed}
 use Rattle.tfs_rules.specs.Consistent.{Named}
 use Rattle.tfs_rules.specs.CheckMeans.{name-is, formed-named}
-use Rattle.tfs_laws.specs.Views.{zero-word}
+use Rattle.tfs_facts.specs.Views.{zero-word}
 
 pub length-pad : (n : ℕ) (l : List ℕ) → length (padTo n l) ≡ n
 length-pad n l = simp (length-append, length-take, length-replicate) (omega arith)

@@ -1,0 +1,7 @@
+pub mod Sizes
+pub mod Stores
+pub mod MapBits
+pub mod Views
+pub mod Entries
+pub mod Names
+pub mod Chosen

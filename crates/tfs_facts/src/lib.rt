@@ -1,0 +1,1 @@
+// Facts on the TFS definitions that code and laws use. No code: see specs/.
