@@ -10,10 +10,7 @@ use Rattle.lists.specs.Name.{zeros}
 use Rattle.lists.specs.Part.{withPart}
 use Rattle.tfs_rules.specs.Layout.{setBlock}
 use Rattle.tfs_rules.specs.Requests.{Store, store, storeAll, zeroStores}
-
-pub store-all-append : (B : ℕ) (xs ys : List Store) (img : List ℕ) → storeAll B img (xs ++ ys) ≡ storeAll B (storeAll B img xs) ys
-store-all-append B [] ys img = refl
-store-all-append B (x ∷ xs) ys img = store-all-append B xs ys (setBlock B img (x .at) (x .bytes))
+use Rattle.tfs_facts.specs.Stores.{storeAll-append}
 
 pub zero-append : (B : ℕ) (xs ys : List ℕ) → zeroStores B (xs ++ ys) ≡ zeroStores B xs ++ zeroStores B ys
 zero-append B [] ys = refl
@@ -28,7 +25,7 @@ zero-put B img last b n e h t =
 
 -- one more block
 zero-more : (B : ℕ) (img bs : List ℕ) (i : ℕ) → i < length bs → storeAll B img (zeroStores B (take (i + 1) bs)) ≡ setBlock B (storeAll B img (zeroStores B (take i bs))) (getD bs i 0) (zeros B)
-zero-more B img bs i h = rw (add-one, take-suc bs i 0 h, zero-append, store-all-append)
+zero-more B img bs i h = rw (add-one, take-suc bs i 0 h, zero-append, storeAll-append)
 
 pub zero-turn : (B : ℕ) (img bs old last : List ℕ) (i b : ℕ) → i < length bs → old ≡ storeAll B img (zeroStores B (take i bs)) → b ≡ getD bs i 0 → last ≡ setBlock B old b (zeros B) → last ≡ storeAll B img (zeroStores B (take (i + 1) bs))
 zero-turn B img bs old last i b h e f t = rw (t, e, f) (sym (zero-more B img bs i h))
