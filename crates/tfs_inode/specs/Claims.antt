@@ -14,6 +14,7 @@ use Rattle.lists.specs.Table.{table, length-table, getD-table, table-more}
 use Rattle.tfs_rules.specs.Layout.{need, inodeSize, inodeNumber}
 use Rattle.tfs_rules.specs.View.{View, free, inode, size, number}
 use Rattle.tfs_rules.specs.Check.{fileClaims, times}
+use Rattle.tfs_rules.specs.Claims.{times-append}
 use Rattle.tfs_map.specs.Under.{Under}
 use Rattle.tfs_inode.specs.Wrong.{inodeWrong, right-number}
 
@@ -97,10 +98,6 @@ tallied-none t = refl
 pub tallied-take : (t bs : List ℕ) (i : ℕ) → i < length bs → tallied t (take (i + 1) bs) ≡ marked (tallied t (take i bs)) (getD bs i 0)
 unfolding tallied marked
 tallied-take t bs i h = rw (add-one i, take-suc bs i 0 h) (tallied-append t (take i bs) (getD bs i 0 ∷ []))
-
-pub times-append : (k : ℕ) (xs ys : List ℕ) → times k (xs ++ ys) ≡ times k xs + times k ys
-times-append k [] ys = omega arith
-times-append k (x ∷ xs) ys = rw (times-append k xs ys) (omega arith)
 
 -- t has of each block how often it stands in a list, up to 2
 abbrev pub Tallied : List ℕ → List ℕ → Type 0
