@@ -1,15 +1,16 @@
 -- The free blocks of a map: how many, the next one, all of them in order.
-use mathlib.Core.Path.{_≡_, refl, ap, _∙_}
+use mathlib.Core.Path.{_≡_, refl, _∙_}
 use mathlib.Core.Bool.{Bool, true, false, not, cond}
 use Prim.Native.Nat.{ℕ, zero, suc, _+_, _-_, _≤_, _<_}
 use native.Mathlib.Numerals.{add-one}
 use native.Mathlib.Omega.{arith}
-use mathlib.Core.List.{List, [], _∷_, _++_}
-use lib.ListN.{length, getD, take, drop, length-append}
+use mathlib.Core.List.{List, _∷_}
+use lib.ListN.{length, getD, take, drop}
 use lib.Seq.{drop-cons, length-take-le}
 use Rattle.lists.specs.Sum.{sum, count, count-le}
 use Rattle.tfs_rules.specs.Layout.{mapBit}
 use Rattle.tfs_rules.specs.View.{View, freeBlocks}
+use Rattle.tfs_rules.specs.Room.{free-below, FreeIn, free-member}
 use Rattle.tfs_rules.specs.Requests.{freeFrom}
 use Rattle.tfs_map.specs.Under.{Under, under-take}
 
@@ -95,40 +96,14 @@ turn map n i k x h e l r =
     let s : k + (n - k) ≡ n = omega arith in
     record { below = omega (arith, at, f .below); rest = rw (add-one x, add-one i, at) (rw s at (f .tail)); taken = at }
 
--- the last block at the end
-pub from-more : (map : List ℕ) (k d : ℕ) → freeFrom map k (suc d) ≡ freeFrom map k d ++ cond (mapBit map (k + d)) [] ((k + d) ∷ [])
-unfolding freeFrom
-from-more map k zero = let e : k + 0 ≡ k = omega arith in rw e
-from-more map k (suc d) =
-    let s : suc k + d ≡ k + suc d = omega arith in
-    by (mapBit map k) refl (rw s at (from-more map (suc k) d))
-  where
-    by : (t : Bool) → mapBit map k ≡ t → freeFrom map (suc k) (suc d) ≡ freeFrom map (suc k) d ++ cond (mapBit map (k + suc d)) [] ((k + suc d) ∷ []) → freeFrom map k (suc (suc d)) ≡ freeFrom map k (suc d) ++ cond (mapBit map (k + suc d)) [] ((k + suc d) ∷ [])
-    by true t step = rw t step
-    by false t step = rw t (ap (λ (l : List ℕ). k ∷ l) step)
-
 -- there are as many as are counted
 pub free-length : (map : List ℕ) (n : ℕ) → length (freeFrom map 0 n) ≡ freeBelow map n
-unfolding freeFrom freeBelow sum
-free-length map zero = refl
-free-length map (suc n) =
-    let z : 0 + n ≡ n = omega arith in
-    rw (from-more, z, length-append) (by (mapBit map n) (free-length map n))
-  where
-    by : (t : Bool) → length (freeFrom map 0 n) ≡ freeBelow map n → length (freeFrom map 0 n) + length (cond t [] (n ∷ [])) ≡ freeBelow map n + cond (not t) 1 0
-    by true e = omega arith
-    by false e = omega arith
+unfolding freeBelow
+free-length map n = free-below map n
 
 -- and each lies in the range
 pub free-under : (map : List ℕ) (k d : ℕ) → Under (k + d) (freeFrom map k d)
-unfolding freeFrom
-free-under map k zero = λ i h. absurd (omega arith)
-free-under map k (suc d) = by (mapBit map k) (freeFrom map (suc k) d) (free-under map (suc k) d)
-  where
-    by : (t : Bool) (rest : List ℕ) → Under (suc k + d) rest → Under (k + suc d) (cond t rest (k ∷ rest))
-    by true rest u i h = omega (arith, u i h)
-    by false rest u zero h = omega arith
-    by false rest u (suc i) h = omega (arith, u i (omega arith))
+free-under map k d i h = free-member map k d i h .high
 
 -- ---- the lowest of them, as pick takes them
 pub length-picked : (map : List ℕ) (n want : ℕ) → want ≤ length (freeFrom map 0 n) → length (take want (freeFrom map 0 n)) ≡ want

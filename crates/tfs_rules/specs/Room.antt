@@ -53,12 +53,15 @@ free-length map k (suc d) =
     (λ e. let z : f k ≡ 0 = ap (λ (b : Bool). cond {A = ℕ} (not b) 1 0) e in omega arith)
     (λ e. let z : f k ≡ 1 = ap (λ (b : Bool). cond {A = ℕ} (not b) 1 0) e in omega arith)
 
+pub free-below : (map : List ℕ) (n : ℕ) → length (freeFrom map 0 n) ≡ count (λ b. not (mapBit map b)) n
+free-below map n =
+    free-length map 0 n
+    ∙ sum-cong (λ i. cond (not (mapBit map (0 + i))) 1 0) (λ i. cond (not (mapBit map i)) 1 0) n (λ i l. rw zero-add)
+
 -- "zero bits below N"
 pub free-count : (v : View) → length (freeFrom (v .map) 0 (v .n)) ≡ freeBlocks v
 unfolding freeBlocks
-free-count v =
-    free-length (v .map) 0 (v .n)
-    ∙ sum-cong (λ i. cond (not (mapBit (v .map) (0 + i))) 1 0) (λ i. cond (not (mapBit (v .map) i)) 1 0) (v .n) (λ i l. rw zero-add)
+free-count v = free-below (v .map) (v .n)
 
 -- ---- what they are
 -- x is free, and one of the d blocks from k on
