@@ -149,7 +149,7 @@ module _ (img nm : List ℕ) (z : ℕ) where
                 (placeable-below (chosen 512 v z) img
                 (λ i l.
                 let p = free .at-cs i l in
-                (p .above, subst (λ (x : ℕ). getD (chosen 512 v z) i 0 < x) (view-n 512 img) (p .below))));
+                (p .inside .low, subst (λ (x : ℕ). getD (chosen 512 v z) i 0 < x) (view-n 512 img) (p .inside .high))));
           }
 
     pub create-done : (s w : ℕ) (list after : List ℕ) → s ≡ findFree (part 1024 512 img) → Chosen img z w list → after ≡ storeAll 512 img (placeStores 512 (view 512 img) s nm z (take (1 + w - 0) list)) → (value (getD list 0 0) ≡ createView 512 (view 512 img) nm z) × (after ≡ cond (granted (createView 512 (view 512 img) nm z)) (storeAll 512 img (createStores 512 (view 512 img) nm z)) img)

@@ -10,7 +10,7 @@ use lib.Seq.{getD-take}
 use lib.Dec.{T}
 use Rattle.tfs_rules.specs.Layout.{slots, need, maxSize, nameAllowed}
 use Rattle.tfs_rules.specs.View.{View, slotOf, freeSlot, freeBlocks}
-use Rattle.tfs_rules.specs.Consistent.{Owned, Sound}
+use Rattle.tfs_rules.specs.Consistent.{Owned, Inside, Sound}
 use Rattle.tfs_rules.specs.Room.{free-count, FreeIn, free-member, free-rising}
 use Rattle.tfs_rules.specs.Requests.{freeFrom, chosen}
 
@@ -24,8 +24,7 @@ pub record CreateGrant (B : ℕ) (v : View) (nm : List ℕ) (z : ℕ) : Type 0 w
 
 -- a block that can be chosen
 pub record Picked (B : ℕ) (v : View) (b : ℕ) : Type 0 where
-  pub below : b < v .n
-  pub above : 3 ≤ b
+  pub inside : Inside v b
   pub unowned : Owned B v b → ⊥
 
 -- the chosen blocks: as many as a file of z bytes takes, free ones, in rising order
@@ -41,8 +40,7 @@ picked B v ok b f =
     let l : b < v .n = omega (arith, f .high) in
     let un : (b < 3) ⊎ Owned B v b → ⊥ = λ w. subst T (f .clear) (ok .mapped b l .1 w) in
     record {
-      below = l;
-      above = elim (decLt b 3) [ yes x ↦ absurd (un (inl x)) | no x ↦ omega arith ];
+      inside = record { low = elim (decLt b 3) [ yes x ↦ absurd (un (inl x)) | no x ↦ omega arith ]; high = l };
       unowned = λ w. un (inr w);
     }
 

@@ -6,7 +6,7 @@ use mathlib.Core.List.{List, [], _∷_, _++_}
 use native.Mathlib.Omega.{arith}
 use lib.ListN.{length, getD, length-replicate}
 use Rattle.lists.specs.Name.{zeros}
-use Rattle.lists.specs.Part.{part, withPart, length-part, length-with, part-with, part-with-other, getD-part}
+use Rattle.lists.specs.Part.{part, withPart, length-part, length-with, part-with, part-with-other, getD-part, getD-with-after}
 use Rattle.tfs_rules.specs.Layout.{block, setBlock}
 use Rattle.tfs_rules.specs.Requests.{Store, store, storeAll, zeroStores}
 use Rattle.tfs_facts.specs.Sizes.{apart-blocks}
@@ -89,3 +89,33 @@ module _ (B : ℕ) where
   zeroed (b ∷ bs) img f d (suc m) h =
       let l : length (setBlock B img b (zeros B)) ≡ length img = length-setBlock B img b (zeros B) (f .0) (f .1 .0) in
       zeroed bs (setBlock B img b (zeros B)) (subst (λ (n : ℕ). Fits B n (zeroStores B bs)) (sym l) (f .1 .1)) (λ i j a c. d (suc i) (suc j) (omega arith) (omega arith)) m (omega arith)
+
+-- ---- stores that end at len or before
+pub fits-up : (B len more : ℕ) → len ≤ more → (xs : List Store) → Fits B len xs → Fits B more xs
+fits-up B len more h [] f = tt
+fits-up B len more h (x ∷ xs) f = (f .0, (omega (arith, f .1 .0), fits-up B len more h xs (f .1 .1)))
+
+-- keep every byte from len on
+pub stored-past : (B len : ℕ) (xs : List Store) (img : List ℕ) (q : ℕ) → Fits B len xs → len ≤ length img → len ≤ q → getD (storeAll B img xs) q 0 ≡ getD img q 0
+unfolding setBlock
+stored-past B len [] img q f h l = refl
+stored-past B len (x ∷ xs) img q f h l =
+    let k : x .at * B + B ≤ length img = omega (arith, f .1 .0) in
+    stored-past B len xs (setBlock B img (x .at) (x .bytes)) q (f .1 .1) (omega (arith, length-setBlock B img (x .at) (x .bytes) (f .0) k)) l
+    ∙ getD-with-after (x .at * B) B (x .bytes) img (f .0) k q (omega (arith, f .1 .0))
+
+-- a store that no later one touches
+pub stored-at : (B : ℕ) (xs : List Store) (x : Store) (ys : List Store) (img : List ℕ) → Fits B (length img) (xs ++ (x ∷ ys)) → Away (x .at) ys → block B (storeAll B img (xs ++ (x ∷ ys))) (x .at) ≡ x .bytes
+stored-at B [] x ys img f a = stored-first B x ys img f a
+stored-at B (y ∷ xs) x ys img f a =
+    let l : length (setBlock B img (y .at) (y .bytes)) ≡ length img = length-setBlock B img (y .at) (y .bytes) (f .0) (f .1 .0) in
+    stored-at B xs x ys (setBlock B img (y .at) (y .bytes)) (subst (λ (n : ℕ). Fits B n (xs ++ (x ∷ ys))) (sym l) (f .1 .1)) a
+
+-- two lists of stores, one after the other
+pub fits-append : (B len : ℕ) (xs ys : List Store) → Fits B len xs → Fits B len ys → Fits B len (xs ++ ys)
+fits-append B len [] ys f g = g
+fits-append B len (x ∷ xs) ys f g = (f .0, (f .1 .0, fits-append B len xs ys (f .1 .1) g))
+
+pub away-append : (c : ℕ) (xs ys : List Store) → Away c xs → Away c ys → Away c (xs ++ ys)
+away-append c [] ys f g = g
+away-append c (x ∷ xs) ys f g = (f .0, away-append c xs ys (f .1) g)

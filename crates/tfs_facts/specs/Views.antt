@@ -1,12 +1,12 @@
 -- What a view takes from its image.
 use mathlib.Core.Path.{_≡_, refl, ap, _∙_, subst}
 use mathlib.Core.Bool.{cond}
-use Prim.Native.Nat.{ℕ, _+_, _≤_, _<_}
+use Prim.Native.Nat.{ℕ, _+_, _*_, _≤_, _<_}
 use mathlib.Core.List.{List, []}
 use native.Mathlib.Omega.{arith}
 use native.Mathlib.Nat.{zero-add}
 use native.Mathlib.Decide.{decLt}
-use lib.ListN.{getD}
+use lib.ListN.{length, getD}
 use lib.Dec.{T, leb, ltb, le→leb, lt→ltb}
 use Rattle.lists.specs.Test.{allZero, zero-bytes, by-test, cond-yes, and-of}
 use Rattle.lists.specs.Table.{getD-table, getD-table-out}
@@ -14,6 +14,7 @@ use Rattle.lists.specs.Word.{word}
 use Rattle.tfs_rules.specs.Layout.{slots, blocks, block, slot, slotInode, slotFree, inRange, inodeSize}
 use Rattle.tfs_rules.specs.View.{View, view, viewN, inodeAt, free, inode, size}
 use Rattle.tfs_rules.specs.Consistent.{File, Inside}
+use Rattle.tfs_facts.specs.Stores.{length-block}
 
 pub zero-word : (l : List ℕ) (p : ℕ) → T (allZero l) → word l p ≡ 0
 unfolding word
@@ -41,6 +42,14 @@ module _ (B : ℕ) (img : List ℕ) where
   pub view-dir : view B img .dir ≡ block B img 2
   unfolding view viewN
   view-dir = refl
+
+  -- in an image of three blocks or more, map and directory are whole blocks
+  module _ (long : 3 * B ≤ length img) where
+    pub length-map : length (view B img .map) ≡ B
+    length-map = ap length view-map ∙ length-block B img 1 (omega arith)
+
+    pub length-dir : length (view B img .dir) ≡ B
+    length-dir = ap length view-dir ∙ length-block B img 2 (omega arith)
 
   pub inodes-at : (s : ℕ) → s < slots B → getD (view B img .inodes) s [] ≡ inodeAt B (blocks B img) img s
   unfolding view viewN

@@ -18,7 +18,7 @@ use Rattle.tfs_rules.specs.Check.{consistent, fileClaims}
 use Rattle.tfs_rules.specs.Consistent.{File, Consistent}
 use Rattle.tfs_rules.specs.CheckMeans.{check-means}
 use Rattle.tfs_rules.specs.Requests.{Answer, done, refused, granted, Outcome, storeAll, create, createStores, chosen, removeView, removeStores, remove, stored}
-use Rattle.tfs_facts.specs.Views.{view-dir, view-map}
+use Rattle.tfs_facts.specs.Views.{view-dir, view-map, length-dir}
 use Rattle.tfs_facts.specs.MapBits.{In, in-at, Distinct, setBits-undo}
 use Rattle.tfs_facts.specs.Names.{slot-is, free-hit, claims-is, name-refl}
 use Rattle.tfs_facts.specs.Entries.{length-entry, allowed}
@@ -102,7 +102,7 @@ module _ (B : ℕ) (sz : BlockSize B) (img : List ℕ) (ok : Consistent B img) (
   dir-back =
       removed.new-dir B sz mid ok-mid nm hit
       ∙ ap₂ (λ (d : List ℕ) (t : ℕ). setSlot d t (zeros 20)) (view-dir B mid ∙ made.new-dir B sz img ok nm z gr) at-slot
-      ∙ slot-back B (v .dir) s (entry (made.i B sz img ok nm z gr) nm) (made.length-dir B sz img ok nm z gr) (gr .slot) (length-entry nm (allowed nm (gr .named)) (made.i B sz img ok nm z gr)) (free-hit B v (gr .slot))
+      ∙ slot-back B (v .dir) s (entry (made.i B sz img ok nm z gr) nm) (length-dir B img (ok .long)) (gr .slot) (length-entry nm (allowed nm (gr .named)) (made.i B sz img ok nm z gr)) (free-hit B v (gr .slot))
       ∙ view-dir B img
 
   map-back : block B (storeAll B mid (removeStores B v′ nm)) 1 ≡ block B img 1

@@ -21,7 +21,7 @@ use Rattle.tfs_rules.specs.CheckMeans.{owns-inside, same-sym, need-le, range-in
 use Rattle.tfs_rules.specs.Room.{free-count, FreeIn, free-member, free-rising}
 use Rattle.tfs_rules.specs.Requests.{Answer, value, refused, granted, Store, store, storeAll, zeroStores, freeFrom, chosen, placeStores, createStores, createView}
 use Rattle.tfs_facts.specs.Sizes.{in-image, in-need, in-block}
-use Rattle.tfs_facts.specs.Views.{view-n, view-head, view-map, view-dir, inode-block}
+use Rattle.tfs_facts.specs.Views.{view-n, view-map, view-dir, length-map, length-dir, inode-block}
 use Rattle.tfs_facts.specs.Stores.{length-block, Fits, Away, length-storeAll, stored-away, stored-first, storeAll-append, zero-fits, zero-away, zeroed, block-same, length-setBlock, byte-at}
 use Rattle.tfs_facts.specs.MapBits.{length-setBits, In, in-dec, in-at, at-in, mapped-all, Mapped, bits-kept, bits-set}
 use Rattle.tfs_facts.specs.Chosen.{CreateGrant, Picked, Choice, choice}
@@ -131,17 +131,11 @@ module _ (B : ℕ) (sz : BlockSize B) (img : List ℕ) (ok : Consistent B img) (
   new-is =
       ap (λ (l : List ℕ). storeAll B img (placeStores B v s nm z l)) cs-is ∙ storeAll-append B (zeroStores B bs) lasts img
 
-  pub length-dir : length (v .dir) ≡ B
-  length-dir = ap length (view-dir B img) ∙ length-block B img 2 (low-inside B img (ok .long) 2 (omega arith))
-
-  pub length-map : length (v .map) ≡ B
-  length-map = ap length (view-map B img) ∙ length-block B img 1 (low-inside B img (ok .long) 1 (omega arith))
-
   inside-img : (b : ℕ) → b < v .n → b * B + B ≤ length img
   inside-img b h = in-image B b img (subst (λ (n : ℕ). b < n) (view-n B img) h)
 
   fits0 : Fits B (length img) (zeroStores B bs)
-  fits0 = zero-fits B bs (length img) (λ m h. inside-img (getD bs m 0) (at-b m h .below))
+  fits0 = zero-fits B bs (length img) (λ m h. inside-img (getD bs m 0) (at-b m h .inside .high))
 
   length-a0 : length a0 ≡ length img
   length-a0 = length-storeAll B (zeroStores B bs) img fits0
@@ -153,12 +147,12 @@ module _ (B : ℕ) (sz : BlockSize B) (img : List ℕ) (ok : Consistent B img) (
   fits1 = (
     length-inode B z bs room-inode,
     (
-      inside-img i (first .below),
+      inside-img i (first .inside .high),
       (
-        length-setBits (i ∷ bs) (v .map) 1 ∙ length-map,
+        length-setBits (i ∷ bs) (v .map) 1 ∙ length-map B img (ok .long),
         (
           low-inside B img (ok .long) 1 (omega arith),
-          (length-setSlot B (v .dir) s (entry i nm) length-dir (gr .slot) (length-entry nm good i), (low-inside B img (ok .long) 2 (omega arith), tt)),
+          (length-setSlot B (v .dir) s (entry i nm) (length-dir B img (ok .long)) (gr .slot) (length-entry nm good i), (low-inside B img (ok .long) 2 (omega arith), tt)),
         ),
       ),
     ),
@@ -181,7 +175,7 @@ module _ (B : ℕ) (sz : BlockSize B) (img : List ℕ) (ok : Consistent B img) (
   new-inode : block B new i ≡ ino
   new-inode =
       ap (λ (x : List ℕ). block B x i) new-is
-      ∙ stored-first B (store i ino) (store 1 map′ ∷ store 2 dir′ ∷ []) a0 fits-a0 ((λ e. omega (arith, first .above)), ((λ e. omega (arith, first .above)), tt))
+      ∙ stored-first B (store i ino) (store 1 map′ ∷ store 2 dir′ ∷ []) a0 fits-a0 ((λ e. omega (arith, first .inside .low)), ((λ e. omega (arith, first .inside .low)), tt))
 
   abbrev a1 : List ℕ
   a1 = setBlock B a0 i ino
@@ -211,7 +205,7 @@ module _ (B : ℕ) (sz : BlockSize B) (img : List ℕ) (ok : Consistent B img) (
       let p : Picked B v (getD bs m 0) = at-b m h in
       ap (λ (x : List ℕ). block B x (getD bs m 0)) new-is
       ∙ stored-away B lasts a0 (getD bs m 0) fits-a0
-      ((λ e. omega (arith, rising 0 (suc m) (omega arith) (omega (arith, length-cs, length-bs)), at-bs m)), ((λ e. omega (arith, p .above)), ((λ e. omega (arith, p .above)), tt)))
+      ((λ e. omega (arith, rising 0 (suc m) (omega arith) (omega (arith, length-cs, length-bs)), at-bs m)), ((λ e. omega (arith, p .inside .low)), ((λ e. omega (arith, p .inside .low)), tt)))
       ∙ zeroed B bs img fits0
       (λ a b l k e. omega (arith, rising (suc a) (suc b) (omega arith) (omega (arith, length-cs, length-bs)), at-bs a, at-bs b)) m h
 
@@ -220,7 +214,7 @@ module _ (B : ℕ) (sz : BlockSize B) (img : List ℕ) (ok : Consistent B img) (
       record {
         long = long′;
         slots-kept = λ t h d.
-            (ap (λ (x : List ℕ). slot x t) new-dir ∙ slot-unset B (v .dir) s (entry i nm) length-dir (gr .slot) (length-entry nm good i) t d ∙ ap (λ (x : List ℕ). slot x t) (view-dir B img));
+            (ap (λ (x : List ℕ). slot x t) new-dir ∙ slot-unset B (v .dir) s (entry i nm) (length-dir B img (ok .long)) (gr .slot) (length-entry nm good i) t d ∙ ap (λ (x : List ℕ). slot x t) (view-dir B img));
         blocks-kept = λ o b d w.
             (let j : Inside v b = owns-inside B v (ok .sound) o b w in
             kept b (λ p. picked b p .unowned (o, w)) (λ e. omega (arith, j .low)) (λ e. omega (arith, j .low)));
@@ -232,7 +226,7 @@ module _ (B : ℕ) (sz : BlockSize B) (img : List ℕ) (ok : Consistent B img) (
   -- ---- the new slot
   pub new-slot : slot (v′ .dir) s ≡ entry i nm
   new-slot =
-      ap (λ (x : List ℕ). slot x s) (view-dir B new ∙ new-dir) ∙ slot-set B (v .dir) s (entry i nm) length-dir (gr .slot) (length-entry nm good i)
+      ap (λ (x : List ℕ). slot x s) (view-dir B new ∙ new-dir) ∙ slot-set B (v .dir) s (entry i nm) (length-dir B img (ok .long)) (gr .slot) (length-entry nm good i)
 
   pub new-file : File B v′ s
   unfolding free
@@ -249,7 +243,7 @@ module _ (B : ℕ) (sz : BlockSize B) (img : List ℕ) (ok : Consistent B img) (
 
   inside-new : Inside v′ i
   inside-new =
-      record { low = first .above; high = subst (λ (n : ℕ). i < n) (sym (n-same B img new s frame)) (first .below) }
+      record { low = first .inside .low; high = subst (λ (n : ℕ). i < n) (sym (n-same B img new s frame)) (first .inside .high) }
 
   new-used : T (used v′ s)
   unfolding used
@@ -342,7 +336,7 @@ module _ (B : ℕ) (sz : BlockSize B) (img : List ℕ) (ok : Consistent B img) (
   bits-is = view-map B new ∙ new-map ∙ ap (setBits (v .map) 1) (sym cs-is)
 
   pub cs-mapped : Mapped (length (v .map)) cs
-  cs-mapped = mapped-all cs (length (v .map)) (λ b p. omega (arith, map-inside B sz img b (picked b p .below), length-map))
+  cs-mapped = mapped-all cs (length (v .map)) (λ b p. omega (arith, map-inside B sz img b (picked b p .inside .high), length-map B img (ok .long)))
 
   bit-in : (b : ℕ) → In b cs → T (mapBit (v′ .map) b)
   bit-in b p =
@@ -403,7 +397,7 @@ module _ (B : ℕ) (sz : BlockSize B) (img : List ℕ) (ok : Consistent B img) (
             each (λ t. k < need B (size v′ t) → Inside v′ (number v′ t k))
             (λ l.
             let p : Picked B v (getD bs k 0) = at-b k (omega (arith, length-bs, needed k l)) in
-            subst (Inside v′) (sym (new-at k (needed k l))) (record { low = p .above; high = subst (λ (n : ℕ). getD bs k 0 < n) (sym (n-same B img new s frame)) (p .below) }))
+            subst (Inside v′) (sym (new-at k (needed k l))) (record { low = p .inside .low; high = subst (λ (n : ℕ). getD bs k 0 < n) (sym (n-same B img new s frame)) (p .inside .high) }))
             (λ t d f. inside-to B img new s frame (ok .sound) t d f k) t f;
         rest = λ t k f.
             each (λ t. need B (size v′ t) ≤ k → k < numbers B → number v′ t k ≡ 0)
@@ -415,7 +409,7 @@ module _ (B : ℕ) (sz : BlockSize B) (img : List ℕ) (ok : Consistent B img) (
 
   pub create-consistent : Consistent B new
   create-consistent =
-      consistent-to B img new ok long′ (kept 0 (λ p. omega (arith, picked 0 p .above)) (λ e. omega arith) (λ e. omega arith)) sound′
+      consistent-to B img new ok long′ (kept 0 (λ p. omega (arith, picked 0 p .inside .low)) (λ e. omega arith) (λ e. omega arith)) sound′
 
   zero-byte : (m r : ℕ) → m < length bs → r < B → getD new (getD bs m 0 * B + r) 0 ≡ 0
   zero-byte m r h l =

@@ -23,7 +23,7 @@ use Rattle.tfs_rules.specs.Consistent.{File, Sound, Consistent}
 use Rattle.tfs_rules.specs.Claims.{slotIn, owns-file}
 use Rattle.tfs_rules.specs.Requests.{done, granted, Outcome, Store, store, storeAll, refuse, formatStores, format}
 use Rattle.tfs_facts.specs.Views.{view-head, view-map, view-dir}
-use Rattle.tfs_facts.specs.Stores.{length-setBlock, Fits, Away, length-storeAll, stored-first}
+use Rattle.tfs_facts.specs.Stores.{Fits, Away, length-storeAll, stored-first, fits-up, stored-past, stored-at}
 use Rattle.tfs_facts.specs.Entries.{length-pad, zeros-zero}
 use Rattle.tfs_laws.specs.Others.{stands-not}
 use Rattle.tfs_facts.specs.MapBits.{In, Mapped, length-setBits, bits-kept, bits-set}
@@ -48,27 +48,6 @@ unfolding slotFree slot part
 zeros-free n s =
     all-zero (part (s * 20) 20 (zeros n))
     (λ i l. getD-part (s * 20) 20 (zeros n) i (omega (arith, length-take 20 (drop (s * 20) (zeros n)))) ∙ zeros-byte n (s * 20 + i))
-
--- ---- stores that end at len or before
-pub fits-up : (B len more : ℕ) → len ≤ more → (xs : List Store) → Fits B len xs → Fits B more xs
-fits-up B len more h [] f = tt
-fits-up B len more h (x ∷ xs) f = (f .0, (omega (arith, f .1 .0), fits-up B len more h xs (f .1 .1)))
-
--- keep every byte from len on
-pub stored-past : (B len : ℕ) (xs : List Store) (img : List ℕ) (q : ℕ) → Fits B len xs → len ≤ length img → len ≤ q → getD (storeAll B img xs) q 0 ≡ getD img q 0
-unfolding setBlock
-stored-past B len [] img q f h l = refl
-stored-past B len (x ∷ xs) img q f h l =
-    let k : x .at * B + B ≤ length img = omega (arith, f .1 .0) in
-    stored-past B len xs (setBlock B img (x .at) (x .bytes)) q (f .1 .1) (omega (arith, length-setBlock B img (x .at) (x .bytes) (f .0) k)) l
-    ∙ getD-with-after (x .at * B) B (x .bytes) img (f .0) k q (omega (arith, f .1 .0))
-
--- a store that no later one touches
-pub stored-at : (B : ℕ) (xs : List Store) (x : Store) (ys : List Store) (img : List ℕ) → Fits B (length img) (xs ++ (x ∷ ys)) → Away (x .at) ys → block B (storeAll B img (xs ++ (x ∷ ys))) (x .at) ≡ x .bytes
-stored-at B [] x ys img f a = stored-first B x ys img f a
-stored-at B (y ∷ xs) x ys img f a =
-    let l : length (setBlock B img (y .at) (y .bytes)) ≡ length img = length-setBlock B img (y .at) (y .bytes) (f .0) (f .1 .0) in
-    stored-at B xs x ys (setBlock B img (y .at) (y .bytes)) (subst (λ (n : ℕ). Fits B n (xs ++ (x ∷ ys))) (sym l) (f .1 .1)) a
 
 -- ---- what format stores
 abbrev formatHead : ℕ → List ℕ → List ℕ

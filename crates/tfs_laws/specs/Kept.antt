@@ -15,7 +15,7 @@ use Rattle.lists.specs.Name.{zeros}
 use Rattle.lists.specs.Part.{getD-with-after}
 use Rattle.lists.specs.Word.{words}
 use Rattle.tfs_rules.specs.Layout.{BlockSize, slots, need, blocks, block, mapBit, setBits, setSlot, entry, inodeBlock}
-use Rattle.tfs_rules.specs.View.{View, view, slotOf, freeSlot}
+use Rattle.tfs_rules.specs.View.{View, view, slotOf, freeSlot, freeBlocks}
 use Rattle.tfs_rules.specs.Check.{Verdict, consistent, broken, check, fileClaims}
 use Rattle.tfs_rules.specs.Consistent.{File, Inside, Consistent}
 use Rattle.tfs_rules.specs.CheckMeans.{check-means, owns-inside}
@@ -23,16 +23,15 @@ use Rattle.tfs_rules.specs.Total.{three-blocks}
 use Rattle.tfs_rules.specs.Room.{FreeIn, free-member}
 use Rattle.tfs_rules.specs.Requests.{granted, Outcome, checkedOutcome, Store, store, storeAll, zeroStores, freeFrom, chosen, placeStores, createStores, create, removeStores, remove, write}
 use Rattle.tfs_facts.specs.Sizes.{after-block}
-use Rattle.tfs_facts.specs.Views.{view-n, view-head, view-map, view-dir}
-use Rattle.tfs_facts.specs.Stores.{Fits, Away, length-block, stored-away, stored-first, zero-fits, zero-away}
+use Rattle.tfs_facts.specs.Views.{view-n, view-head, view-map, view-dir, length-map, length-dir}
+use Rattle.tfs_facts.specs.Stores.{Fits, Away, stored-away, stored-first, zero-fits, zero-away, fits-up, stored-at, fits-append, away-append}
 use Rattle.tfs_facts.specs.MapBits.{In, in-at, mapped-all, length-setBits, bits-kept}
 use Rattle.tfs_laws.specs.WriteLists.{wr, request, request-view}
 use Rattle.tfs_facts.specs.Names.{slot-hit, length-setSlot, claims-owner}
 use Rattle.tfs_facts.specs.Entries.{length-pad, Allowed, allowed, length-entry}
 use Rattle.tfs_laws.specs.Removes.{map-inside}
-use Rattle.tfs_facts.specs.Chosen.{CreateGrant}
+use Rattle.tfs_facts.specs.Chosen.{CreateGrant, Picked, Choice, choice}
 use Rattle.tfs_laws.specs.Changes.{Change, creates, removes, writes, perform, create-image, create-granted, remove-image, remove-granted, refused-keeps}
-use Rattle.tfs_laws.specs.Formats.{fits-up, stored-at}
 
 -- what requests other than format keep
 pub record KeptLaw (B : ℕ) (img new : List ℕ) : Type 0 where
@@ -99,12 +98,6 @@ volume-end B img =
     omega (arith, mul-le-mul-right {m = min (8 * B) (length img / B)} {n = length img / B} B (omega arith), div-mul-le-self (length img) B)
 
 module _ (B : ℕ) (size : BlockSize B) (img : List ℕ) (long : 3 * B ≤ length img) where
-  length-map : length (view B img .map) ≡ B
-  length-map = ap length (view-map B img) ∙ length-block B img 1 (omega arith)
-
-  length-dir : length (view B img .dir) ≡ B
-  length-dir = ap length (view-dir B img) ∙ length-block B img 2 (omega arith)
-
   -- blocks 0 to 2 are of the volume
   pub three : 3 ≤ blocks B img
   three = subst (λ (n : ℕ). 3 ≤ n) (view-n B img) (three-blocks B size img long)
@@ -112,23 +105,14 @@ module _ (B : ℕ) (size : BlockSize B) (img : List ℕ) (long : 3 * B ≤ lengt
   bits-past : (w : ℕ) (cs : List ℕ) → w < 2 → ((c : ℕ) → In c cs → c < view B img .n) → (b : ℕ) → blocks B img ≤ b → mapBit (setBits (view B img .map) w cs) b ≡ mapBit (block B img 1) b
   bits-past w cs two low b h =
       bits-kept w two cs (view B img .map)
-      (mapped-all cs (length (view B img .map)) (λ c i. rw length-map (map-inside B size img c (low c i))))
+      (mapped-all cs (length (view B img .map)) (λ c i. rw (length-map B img long) (map-inside B size img c (low c i))))
       b (λ i. omega (arith, low b i, view-n B img))
       ∙ ap (λ (m : List ℕ). mapBit m b) (view-map B img)
 
   ends-past : (s : ℕ) (e : List ℕ) → s < slots B → length e ≡ 20 → (i : ℕ) → 20 * slots B ≤ i → getD (setSlot (view B img .dir) s e) i 0 ≡ getD (block B img 2) i 0
   unfolding setSlot
   ends-past s e l k i h =
-      getD-with-after (s * 20) 20 e (view B img .dir) k (omega (arith, length-dir)) i (omega arith) ∙ ap (λ (d : List ℕ). getD d i 0) (view-dir B img)
-
--- two lists of stores, one after the other
-fits-append : (B len : ℕ) (xs ys : List Store) → Fits B len xs → Fits B len ys → Fits B len (xs ++ ys)
-fits-append B len [] ys f g = g
-fits-append B len (x ∷ xs) ys f g = (f .0, (f .1 .0, fits-append B len xs ys (f .1 .1) g))
-
-away-append : (c : ℕ) (xs ys : List Store) → Away c xs → Away c ys → Away c (xs ++ ys)
-away-append c [] ys f g = g
-away-append c (x ∷ xs) ys f g = (f .0, away-append c xs ys (f .1) g)
+      getD-with-after (s * 20) 20 e (view B img .dir) k (omega (arith, length-dir B img long)) i (omega arith) ∙ ap (λ (d : List ℕ). getD d i 0) (view-dir B img)
 
 -- ---- on a consistent volume
 module _ (B : ℕ) (size : BlockSize B) (img : List ℕ) (ok : Consistent B img) where
@@ -138,22 +122,9 @@ module _ (B : ℕ) (size : BlockSize B) (img : List ℕ) (ok : Consistent B img)
   inside-high : (b : ℕ) → Inside v b → b < blocks B img
   inside-high b h = subst (λ (n : ℕ). b < n) (view-n B img) (h .high)
 
-  -- a block that the map does not mark is none of blocks 0 to 2
-  clear-inside : (b : ℕ) → b < v .n → mapBit (v .map) b ≡ false → Inside v b
-  clear-inside b h e =
-      elim (decLt b 3) [
-        | yes l ↦ absurd (subst T e (ok .sound .mapped b h .1 (inl l)))
-        | no l ↦ record { low = omega arith; high = h }
-      ]
-
-  -- the blocks that create chooses are free ones of the volume
-  chosen-inside : (sz m : ℕ) → m < length (chosen B v sz) → Inside v (getD (chosen B v sz) m 0)
-  unfolding chosen
-  chosen-inside sz m h =
-      let l : List ℕ = freeFrom (v .map) 0 (v .n) in
-      let f : FreeIn (v .map) 0 (v .n) (getD l m 0) = free-member (v .map) 0 (v .n) m (omega (arith, length-take (1 + need B sz) l)) in
-      subst (Inside v) (sym (getD-take (1 + need B sz) l m 0 (omega (arith, length-take (1 + need B sz) l))))
-      (clear-inside (getD l m 0) (omega (arith, f .high)) (f .clear))
+  -- the blocks that create chooses are blocks of the volume
+  chosen-inside : (sz : ℕ) → 1 + need B sz ≤ freeBlocks v → (m : ℕ) → m < length (chosen B v sz) → Inside v (getD (chosen B v sz) m 0)
+  chosen-inside sz room m h = choice B v (ok .sound) sz room .at-cs m h .inside
 
   -- a block that the file in slot s claims is one of the volume
   claims-inside : (s b : ℕ) → File B v s → In b (fileClaims B v s) → Inside v b
@@ -183,10 +154,10 @@ module _ (B : ℕ) (size : BlockSize B) (img : List ℕ) (ok : Consistent B img)
     pub remove-fits : Fits B end (removeStores B v nm)
     unfolding removeStores
     remove-fits = (
-      length-setSlot B (v .dir) (slotOf B v nm) (zeros 20) (length-dir B size img (ok .long)) l refl,
+      length-setSlot B (v .dir) (slotOf B v nm) (zeros 20) (length-dir B img (ok .long)) l refl,
       (
         at-block 2 (omega (arith, three-in)),
-        (length-setBits (fileClaims B v (slotOf B v nm)) (v .map) 0 ∙ length-map B size img (ok .long), (at-block 1 (omega (arith, three-in)), tt)),
+        (length-setBits (fileClaims B v (slotOf B v nm)) (v .map) 0 ∙ length-map B img (ok .long), (at-block 1 (omega (arith, three-in)), tt)),
       ),
     )
 
@@ -211,8 +182,8 @@ module _ (B : ℕ) (size : BlockSize B) (img : List ℕ) (ok : Consistent B img)
       (
         at-block i h,
         (
-          length-setBits (i ∷ bs) (v .map) 1 ∙ length-map B size img (ok .long),
-          (at-block 1 (omega (arith, three-in)), (length-setSlot B (v .dir) s (entry i nm) (length-dir B size img (ok .long)) l (length-entry nm good i), (at-block 2 (omega (arith, three-in)), tt))),
+          length-setBits (i ∷ bs) (v .map) 1 ∙ length-map B img (ok .long),
+          (at-block 1 (omega (arith, three-in)), (length-setSlot B (v .dir) s (entry i nm) (length-dir B img (ok .long)) l (length-entry nm good i), (at-block 2 (omega (arith, three-in)), tt))),
         ),
       ),
     )
@@ -257,14 +228,14 @@ module _ {B : ℕ} (size : BlockSize B) (img : List ℕ) where
   pub create-fits : (nm : List ℕ) (sz : ℕ) → check B img ≡ consistent → CreateGrant B (view B img) nm sz → Fits B (blocks B img * B) (createStores B (view B img) nm sz)
   unfolding createStores
   create-fits nm sz e g =
-      place-fits B size img (sound-of e) nm (allowed nm (g .named)) sz (freeSlot B (view B img)) (g .slot) (chosen B (view B img) sz) (chosen-inside B size img (sound-of e) sz)
+      place-fits B size img (sound-of e) nm (allowed nm (g .named)) sz (freeSlot B (view B img)) (g .slot) (chosen B (view B img) sz) (chosen-inside B size img (sound-of e) sz (g .room))
 
   -- create keeps what the layout says is kept
   pub create-kept : (nm : List ℕ) (sz : ℕ) → KeptLaw B img (create B img nm sz .image)
   unfolding createStores
   create-kept nm sz =
       by-create B img nm sz (KeptLaw B img) (kept-same B img)
-      (λ e g. place-keeps B size img (sound-of e) nm (allowed nm (g .named)) sz (freeSlot B (view B img)) (g .slot) (chosen B (view B img) sz) (chosen-inside B size img (sound-of e) sz))
+      (λ e g. place-keeps B size img (sound-of e) nm (allowed nm (g .named)) sz (freeSlot B (view B img)) (g .slot) (chosen B (view B img) sz) (chosen-inside B size img (sound-of e) sz (g .room)))
 
   -- so does remove
   pub remove-kept : (nm : List ℕ) → KeptLaw B img (remove B img nm .image)

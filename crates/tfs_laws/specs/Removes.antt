@@ -19,7 +19,7 @@ use Rattle.tfs_rules.specs.Claims.{slotIn, owns-file}
 use Rattle.tfs_rules.specs.CheckMeans.{owns-inside, same-sym}
 use Rattle.tfs_rules.specs.Requests.{Store, store, storeAll, removeStores}
 use Rattle.tfs_facts.specs.Sizes.{in-image}
-use Rattle.tfs_facts.specs.Views.{view-n, view-head, view-map, view-dir}
+use Rattle.tfs_facts.specs.Views.{view-n, view-map, view-dir, length-map, length-dir}
 use Rattle.tfs_laws.specs.Content.{standing, contents-at}
 use Rattle.tfs_facts.specs.Stores.{length-block, Fits, Away, length-storeAll, stored-away, stored-first, block-same, length-setBlock}
 use Rattle.tfs_facts.specs.MapBits.{in-map, length-setBits, In, in-dec, mapped-all, Mapped, bits-kept, bits-set}
@@ -60,18 +60,12 @@ module _ (B : ℕ) (sz : BlockSize B) (img : List ℕ) (ok : Consistent B img) (
   the-file : File B v s
   the-file = slot-hit B v nm hit .0
 
-  length-dir : length (v .dir) ≡ B
-  length-dir = ap length (view-dir B img) ∙ length-block B img 2 (low-inside B img (ok .long) 2 (omega arith))
-
-  length-map : length (v .map) ≡ B
-  length-map = ap length (view-map B img) ∙ length-block B img 1 (low-inside B img (ok .long) 1 (omega arith))
-
   fits : Fits B (length img) (store 2 dir′ ∷ store 1 map′ ∷ [])
   fits = (
-    length-setSlot B (v .dir) s (zeros 20) length-dir hit refl,
+    length-setSlot B (v .dir) s (zeros 20) (length-dir B img (ok .long)) hit refl,
     (
       low-inside B img (ok .long) 2 (omega arith),
-      (length-setBits (fileClaims B v s) (v .map) 0 ∙ length-map, (low-inside B img (ok .long) 1 (omega arith), tt)),
+      (length-setBits (fileClaims B v s) (v .map) 0 ∙ length-map B img (ok .long), (low-inside B img (ok .long) 1 (omega arith), tt)),
     ),
   )
 
@@ -97,7 +91,7 @@ module _ (B : ℕ) (sz : BlockSize B) (img : List ℕ) (ok : Consistent B img) (
   frame =
       record {
         long = long′;
-        slots-kept = λ t h d. (ap (λ (x : List ℕ). slot x t) new-dir ∙ slot-unset B (v .dir) s (zeros 20) length-dir hit refl t d ∙ ap (λ (x : List ℕ). slot x t) (view-dir B img));
+        slots-kept = λ t h d. (ap (λ (x : List ℕ). slot x t) new-dir ∙ slot-unset B (v .dir) s (zeros 20) (length-dir B img (ok .long)) hit refl t d ∙ ap (λ (x : List ℕ). slot x t) (view-dir B img));
         blocks-kept = λ o b d w. (let i : Inside v b = owns-inside B v (ok .sound) o b w in kept b (λ e. omega (arith, i .low)) (λ e. omega (arith, i .low)));
       }
 
@@ -108,7 +102,7 @@ module _ (B : ℕ) (sz : BlockSize B) (img : List ℕ) (ok : Consistent B img) (
   unfolding free slotFree
   freed =
       subst (λ (x : List ℕ). T (allZero x))
-      (sym (ap (λ (x : List ℕ). slot x s) (view-dir B new ∙ new-dir) ∙ slot-set B (v .dir) s (zeros 20) length-dir hit refl)) tt
+      (sym (ap (λ (x : List ℕ). slot x s) (view-dir B new ∙ new-dir) ∙ slot-set B (v .dir) s (zeros 20) (length-dir B img (ok .long)) hit refl)) tt
 
   -- no file of the new volume is in the slot
   pub other : (t : ℕ) → File B v′ t → t ≢ s
@@ -127,7 +121,7 @@ module _ (B : ℕ) (sz : BlockSize B) (img : List ℕ) (ok : Consistent B img) (
       (λ b i.
       let o = claims-owner B v s b the-file i in
       let j : Inside v b = owns-inside B v (ok .sound) (o .0) b (o .2) in
-      omega (arith, map-inside B sz img b (j .high), length-map))
+      omega (arith, map-inside B sz img b (j .high), length-map B img (ok .long)))
 
   bit-out : (b : ℕ) → (In b (fileClaims B v s) → ⊥) → mapBit (v′ .map) b ≡ mapBit (v .map) b
   bit-out b d =

@@ -23,8 +23,8 @@ use Rattle.tfs_facts.specs.Views.{view-n}
 use Rattle.tfs_laws.specs.Places.{blocks-eq, filesOf, position}
 use Rattle.tfs_laws.specs.Writes.{step-other}
 use Rattle.tfs_laws.specs.WriteLists.{wr, request, request-image, request-length, putOf}
-use Rattle.tfs_facts.specs.Stores.{Fits, length-setBlock, length-block, length-storeAll}
-use Rattle.tfs_laws.specs.Formats.{fits-up, stored-past, format-fits, by-format, formatted-past, formatted-length}
+use Rattle.tfs_facts.specs.Stores.{Fits, length-setBlock, length-block, length-storeAll, fits-up, stored-past}
+use Rattle.tfs_laws.specs.Formats.{format-fits, by-format, formatted-past, formatted-length}
 use Rattle.tfs_laws.specs.Creates.{create-grant}
 use Rattle.tfs_laws.specs.Changes.{remove-is, remove-granted}
 use Rattle.tfs_laws.specs.Kept.{volume-end, three, by-create, by-remove, by-write, create-fits, remove-fits}
