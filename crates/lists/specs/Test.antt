@@ -76,6 +76,14 @@ pub nor-r : (a b : Bool) → T (not (a || b)) → T (not b)
 nor-r true b t = absurd t
 nor-r false b t = t
 
+pub or-no-l : (a b : Bool) → (a || b) ≡ false → a ≡ false
+or-no-l true b e = e
+or-no-l false b e = refl
+
+pub or-no-r : (a b : Bool) → (a || b) ≡ false → b ≡ false
+or-no-r true b e = cc
+or-no-r false b e = e
+
 pub or-l : (a b : Bool) → T a → T (a || b)
 or-l true b t = tt
 or-l false b t = absurd t

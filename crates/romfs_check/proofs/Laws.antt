@@ -13,7 +13,8 @@ use Rattle.romfs_rules.specs.Rules as rules
 use Rattle.romfs_rules.specs.Rules.{Verdict, accepted, refused, short21, magic22, size23, sum24, name25}
 use Rattle.romfs_rules.specs.Reached.{Reached, root, along, inside, IsReached, Sound}
 use Rattle.romfs_rules.specs.Check.{andThen, visitList, visitEntry, visitAll, walk, volume, links, check, leads, towards, seek, isReached, badLink}
-use Rattle.romfs_rules.specs.Facts.{room, ends, next-from, next-to, own-to, first-to, depth-to, fault-sound, or-no-l, or-no-r, list-descends, list-first}
+use Rattle.lists.specs.Test.{or-no-l, or-no-r}
+use Rattle.romfs_rules.specs.Facts.{room, ends, next-from, next-to, own-to, first-to, depth-to, fault-sound, list-descends, list-first}
 use Rattle.romfs_rules.specs.Visit.{list-refused, list-last, list-next, entry-refused, entry-leaf, entry-list, entry-test}
 use Rattle.romfs_rules.specs.Walked.{Volume, full-from, full-to, root-to, visit-none, visit-root, sound, reached-in, reached-room}
 use Rattle.romfs_rules.specs.Links.{linkFault}

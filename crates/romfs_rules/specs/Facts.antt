@@ -8,19 +8,12 @@ use native.Mathlib.Omega.{arith}
 use native.Mathlib.Decide.{ℕ-discrete}
 use borrow.Author.Tests.{ltb-false, leb-false, eq-eqb, ne-eqb, eqb-true, not-false}
 use lib.Dec.{leb, ltb, eqb}
+use Rattle.lists.specs.Test.{or-no-l, or-no-r}
 use Rattle.romfs_rules.specs.Layout.{afterName, next, info, contentAt, endOf, own, descends, hasList}
 use Rattle.romfs_rules.specs.Rules.{accepted, refused, overBound, badHeader, badNext, badFirst, badNesting, tooDeep, fault, badName, badSum, badInfo, badSize}
 use Rattle.romfs_rules.specs.Reached.{Sound}
 
 -- ---- Booleans
-pub or-no-l : (a b : Bool) → (a || b) ≡ false → a ≡ false
-or-no-l true b e = e
-or-no-l false b e = refl
-
-pub or-no-r : (a b : Bool) → (a || b) ≡ false → b ≡ false
-or-no-r true b e = absurd (let z : _≡_ {A = ℕ} 0 1 = cc in omega arith)
-or-no-r false b e = e
-
 pub and-no : (a b : Bool) → (a && b) ≡ false → a ≡ true → b ≡ false
 and-no true b e t = e
 and-no false b e t = absurd (let z : _≡_ {A = ℕ} 0 1 = cc in omega arith)

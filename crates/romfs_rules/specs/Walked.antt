@@ -8,11 +8,12 @@ use native.Mathlib.Omega.{arith}
 use borrow.Author.Tests.{eq-eqb, ne-eqb, ltb-true, ltb-false, eqb-true, not-false}
 use lib.ListN.{length}
 use lib.Dec.{ltb, eqb}
+use Rattle.lists.specs.Test.{or-no-l, or-no-r}
 use Rattle.romfs_rules.specs.Layout.{fullSize, firstRoot, afterName, nameLength, nameEnds}
 use Rattle.romfs_rules.specs.Rules.{Verdict, accepted, refused, short21, magic22, size23, sum24, name25, fault}
 use Rattle.romfs_rules.specs.Reached.{Reached, root, along, inside, Sound}
 use Rattle.romfs_rules.specs.Check.{visitList, visitEntry, visitAll, walk, volume}
-use Rattle.romfs_rules.specs.Facts.{or-no-l, or-no-r, has-list, list-descends, list-first, fault-sound, room, ends}
+use Rattle.romfs_rules.specs.Facts.{has-list, list-descends, list-first, fault-sound, room, ends}
 use Rattle.romfs_rules.specs.Visit as visit
 use Rattle.romfs_rules.specs.Visit.{From, lies, all, not-both}
 

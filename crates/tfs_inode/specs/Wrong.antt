@@ -7,7 +7,7 @@ use mathlib.Core.List.{List, []}
 use lib.ListN.{getD}
 use lib.Dec.{T, leb, ltb, eqb, leb→le, ltb→lt}
 use borrow.Author.Tests.{lt-ltb, ltb-false}
-use Rattle.lists.specs.Test.{not-not, and-l, and-r}
+use Rattle.lists.specs.Test.{not-not, and-l, and-r, or-no-l, or-no-r}
 use Rattle.lists.specs.Least.{least, least-none}
 use Rattle.tfs_rules.specs.Layout.{numbers, maxSize, need, inRange, inodeSize, inodeNumber}
 use Rattle.tfs_rules.specs.View.{View, free, size, number}
@@ -38,14 +38,6 @@ unfolding numbersWrong
 wrong-none n ino e = rw (← e)
 
 -- ---- what an inode that is not wrong says
-or-no-l : (a b : Bool) → (a || b) ≡ false → a ≡ false
-or-no-l true b e = e
-or-no-l false b e = refl
-
-or-no-r : (a b : Bool) → (a || b) ≡ false → b ≡ false
-or-no-r true b e = cc
-or-no-r false b e = e
-
 pub need-small : (size : ℕ) → size ≤ 65024 → need 512 size ≤ 127
 unfolding need
 need-small size h = omega arith
