@@ -12,10 +12,11 @@ use Rattle.lists.specs.Sum.{sum}
 use Rattle.lists.specs.Name.{zeros, zeroAt, firstZero, upToZero}
 use Rattle.lists.specs.Word.{word, words}
 use Rattle.lists.specs.Bits.{bitOf, withBit}
-use Rattle.lists.specs.Part.{part, withPart, length-with}
+use Rattle.lists.specs.Part.{part, withPart}
 use Rattle.tfs_rules.specs.Layout.{need, blocks, block, setBlock, mapBit, setBit, slot, setSlot, slotInode, slotName, slotFree, nameFormed, slotUsed, sameName, entry, inodeSize, inodeNumber, inodeBlock, labelAllowed, nameAllowed}
 use Rattle.tfs_rules.specs.View.{inodeAt, viewN, view, free, used, inode, name, size, number, slotOf, slotWith, freeSlot, freeBlocks}
 use Rattle.tfs_rules.specs.Check.{consistent, tooShort, badMagic, badLabel, repeats, badSlot, badNumber, badInode, fileClaims, claimsTo, claims, checkView, check}
+use Rattle.tfs_facts.specs.Stores.{Fits, length-storeAll}
 use Rattle.romfs_rules.specs.Layout.{fullSize, nameLength, nameEnds, afterName, firstRoot, kind, executable, next, info, contentAt, endOf, own, isDots, descends, hasList, hasData, wordSum}
 use Rattle.romfs_rules.specs.Layout as romfs
 use Rattle.romfs_rules.specs.Rules.{short21, magic22, size23, sum24, name25, overBound, badName, badSum, badInfo, badSize, badHeader, badNext, badFirst, badNesting, tooDeep, fault}
@@ -167,17 +168,13 @@ abbrev Blocks : ℕ → List Store → Type 0
 Blocks n [] = Unit {0}
 Blocks n (x ∷ xs) = (x .at < n) × (length (x .bytes) ≡ 512) × Blocks n xs
 
+blocks-fit : (n : ℕ) (xs : List Store) → Blocks n xs → Fits 512 (n * 512) xs
+blocks-fit n [] w = tt
+blocks-fit n (x ∷ xs) w = (w .1, (omega (arith, w .0), blocks-fit n xs (w .2)))
+
 image-stored : {n : ℕ} (img : List ℕ) (xs : List Store) → Image n img → Blocks n xs → Image n (storeAll 512 img xs)
-unfolding setBlock
-image-stored img [] g w = g
-image-stored img (x ∷ xs) g w =
-    image-stored (setBlock 512 img (x .at) (x .bytes)) xs
-    (record {
-      low = g .low;
-      high = g .high;
-      whole = length-with (x .at * 512) 512 (x .bytes) img (w .1) (omega (arith, w .0)) ∙ g .whole;
-    })
-    (w .2)
+image-stored {n} img xs g w =
+    record { low = g .low; high = g .high; whole = length-storeAll 512 xs img (rw (g .whole) (blocks-fit n xs w)) ∙ g .whole }
 
 -- ---- the volume just formatted
 module _ {n : ℕ} {img : List ℕ} (g : Image n img) where
@@ -219,12 +216,12 @@ module _ {img : List ℕ} (g : Image 128 img) where
   write-made : (o k : ℕ) (buf : List ℕ) → length buf ≡ k → write 512 (create 512 (format 512 img PUMP .image) TIMING 1000 .image) 3 o buf .answer ≡ transferView 512 (viewN 512 128 (made img)) 3 o k
   write-made o k buf e = ap (λ (c : Outcome). write 512 (c .image) 3 o buf .answer) is-made ∙ write-is filled 3 o k buf e
 
--- every row of the table at once, for any images and buffers of these lengths
 -- ---- the romfs image
 rom-accepted : romCheck ROM ≡ rom.accepted
 unfolding least word part fullSize romfs.zeroAt nameLength nameEnds afterName firstRoot kind executable next info romfs.size romfs.name contentAt endOf own isDots descends hasList hasData wordSum short21 magic22 size23 sum24 name25 overBound badName badSum badInfo badSize badHeader badNext badFirst badNesting tooDeep fault visitList visitEntry visitAll walk leads towards seek isReached badLink links volume romCheck
 rom-accepted = refl
 
+-- every row of the table at once, for any images and buffers of these lengths
 pub starred : (img a b into from : List ℕ) → length img ≡ 65536 → length a ≡ 67072 → length b ≡ 66560 → length into ≡ 200 → length from ≡ 30 → computed img a b into from ≡ expected
 unfolding computed expected computing
 starred img a b into from len len-a len-b len-into len-from =
