@@ -3,4 +3,3 @@ pub mod Zeros
 pub mod Same
 pub mod Copy
 pub mod Masks
-pub mod Sums

@@ -3,4 +3,3 @@ pub mod words; // words.rt: big-endian 32-bit words
 pub mod search; // search.rt: the first zero, all zeros, the same bytes
 pub mod copy; // copy.rt: fills and copies
 pub mod bits; // bits.rt: one bit of a byte
-pub mod sums; // sums.rt: the sum of all words
