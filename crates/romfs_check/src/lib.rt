@@ -33,10 +33,10 @@ fn bad_magic(image: &[u8]) -> bool
     requires { ⌜ 32 ≤ length (now image) ⌝ }
     ensures { λ r. ⌜ r ≡ magic22 (now (image .entry)) ⌝ }
 {
-    if romfs_headers::be32(image, 0) != 0x2D726F6D {
+    if spans::words::be32(image, 0) != 0x2D726F6D {
         return true;
     }
-    romfs_headers::be32(image, 4) != 0x3166732D
+    spans::words::be32(image, 4) != 0x3166732D
 }
 
 fn bad_full(full: usize, len: usize) -> bool

@@ -5,25 +5,12 @@ ghost use lib.Dec.{leb, ltb, eqb};
 ghost use Prim.Native.Nat.{_+_, _*_, _/_, _%_, _≤_, _<_};
 ghost use lib.ListN.{length};
 ghost use Rattle.lists.specs.Test.{sameList};
-ghost use Rattle.lists.specs.Word.{wordOf, word};
+ghost use Rattle.lists.specs.Word.{word};
 ghost use Rattle.lists.specs.Part.{part};
 ghost use Rattle.romfs_rules.specs.Layout.{pad16, nameLength, fullSize, firstRoot, kind, executable, next, info, size, endOf, isDots, descends, hasData, wordSum};
 ghost use Rattle.romfs_rules.specs.Rules.{overBound, badName, badSum, badInfo, badSize, badHeader};
 ghost use Rattle.romfs_headers.specs.Known.{Whole, Head, stepOf};
-
-fn word_of(a: u8, b: u8, c: u8, d: u8) -> u32
-    ensures { λ r. ⌜ r ≡ wordOf a b c d ⌝ }
-{
-    ((a as u32 * 256 + b as u32) * 256 + c as u32) * 256 + d as u32
-}
-
-// The big-endian word at an index.
-pub fn be32(image: &[u8], at: usize) -> u32
-    requires { ⌜ at + 4 ≤ length (now image) ⌝ }
-    ensures { λ r. ⌜ r ≡ word (now (image .entry)) at ⌝ }
-{
-    word_of(image[at], image[at + 1], image[at + 2], image[at + 3])
-}
+use spans::words::be32;
 
 fn wide(x: u32) -> usize
     ensures { λ r. ⌜ (r ≡ x) × (r < 4294967296) ⌝ }
