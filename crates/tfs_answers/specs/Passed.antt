@@ -3,8 +3,8 @@ use mathlib.Core.Path.{_≡_, refl, sym, ap, _∙_}
 use Prim.Native.Nat.{ℕ}
 use mathlib.Core.List.{List}
 use Rattle.lists.specs.Name.{zeros}
-use Rattle.tfs_rules.specs.Check.{Verdict, consistent}
-use Rattle.tfs_rules.specs.Requests.{Answer, Outcome, Filled, checked, checkedOutcome, checkedFilled}
+use Rattle.tfs_rules.specs.Check.{Verdict, consistent, broken}
+use Rattle.tfs_rules.specs.Requests.{Answer, done, Outcome, Filled, checked, checkedOutcome, checkedFilled}
 use Rattle.tfs_check.specs.declared.Fault.{Fault}
 use Rattle.tfs_check.specs.declared.Fault.the-variants.{Header, Slot, Block}
 use Rattle.tfs_check.specs.declared.Checked.{Checked}
@@ -12,40 +12,28 @@ use Rattle.tfs_check.specs.declared.Checked.the-variants.{Refused}
 use Rattle.tfs_check.specs.Told.{faultTold, FaultFits, CheckedFits}
 use Rattle.tfs_answers.specs.Told.{faultAnswer, listedName}
 
+-- what holds of every broken rule holds of every fault
+by-fault : (P : Verdict → Type 0) → ((num p : ℕ) → P (broken num p)) → (f : Fault) → P (faultTold f)
+by-fault P h (Header num) = h num 0
+by-fault P h (Slot num s) = h num s
+by-fault P h (Block num b) = h num b
+
+-- ---- a fault
 module _ (f : Fault) (v : Verdict) (e : faultTold f ≡ v) where
   pub fault-answer : (a : Answer) → faultAnswer f ≡ checked v a
-  fault-answer a = go f ∙ ap (λ (x : Verdict). checked x a) e
-    where
-      go : (g : Fault) → faultAnswer g ≡ checked (faultTold g) a
-      go (Header num) = refl
-      go (Slot num s) = refl
-      go (Block num b) = refl
+  fault-answer a = by-fault (λ x. checked x done ≡ checked x a) (λ num p. refl) f ∙ ap (λ (x : Verdict). checked x a) e
 
   pub fault-outcome : (img : List ℕ) (o : Outcome) → (faultAnswer f ≡ checkedOutcome v img o .answer) × (img ≡ checkedOutcome v img o .image)
-  fault-outcome img o = (goA f ∙ ap (λ (x : Verdict). checkedOutcome x img o .answer) e, goI f ∙ ap (λ (x : Verdict). checkedOutcome x img o .image) e)
-    where
-      goA : (g : Fault) → faultAnswer g ≡ checkedOutcome (faultTold g) img o .answer
-      goA (Header num) = refl
-      goA (Slot num s) = refl
-      goA (Block num b) = refl
-
-      goI : (g : Fault) → img ≡ checkedOutcome (faultTold g) img o .image
-      goI (Header num) = refl
-      goI (Slot num s) = refl
-      goI (Block num b) = refl
+  fault-outcome img o = (
+    by-fault (λ x. checked x done ≡ checkedOutcome x img o .answer) (λ num p. refl) f ∙ ap (λ (x : Verdict). checkedOutcome x img o .answer) e,
+    by-fault (λ x. img ≡ checkedOutcome x img o .image) (λ num p. refl) f ∙ ap (λ (x : Verdict). checkedOutcome x img o .image) e,
+  )
 
   pub fault-filled : (buf : List ℕ) (o : Filled) → (faultAnswer f ≡ checkedFilled v buf o .answer) × (buf ≡ checkedFilled v buf o .buffer)
-  fault-filled buf o = (goA f ∙ ap (λ (x : Verdict). checkedFilled x buf o .answer) e, goI f ∙ ap (λ (x : Verdict). checkedFilled x buf o .buffer) e)
-    where
-      goA : (g : Fault) → faultAnswer g ≡ checkedFilled (faultTold g) buf o .answer
-      goA (Header num) = refl
-      goA (Slot num s) = refl
-      goA (Block num b) = refl
-
-      goI : (g : Fault) → buf ≡ checkedFilled (faultTold g) buf o .buffer
-      goI (Header num) = refl
-      goI (Slot num s) = refl
-      goI (Block num b) = refl
+  fault-filled buf o = (
+    by-fault (λ x. checked x done ≡ checkedFilled x buf o .answer) (λ num p. refl) f ∙ ap (λ (x : Verdict). checkedFilled x buf o .answer) e,
+    by-fault (λ x. buf ≡ checkedFilled x buf o .buffer) (λ num p. refl) f ∙ ap (λ (x : Verdict). checkedFilled x buf o .buffer) e,
+  )
 
 -- ---- a passed check
 module _ (v : Verdict) (e : v ≡ consistent) where
@@ -64,6 +52,4 @@ fault-fits r f e h = rw e at h
 
 -- a fault has no name beside it
 pub no-name : (f : Fault) → zeros 16 ≡ listedName (faultAnswer f)
-no-name (Header num) = refl
-no-name (Slot num s) = refl
-no-name (Block num b) = refl
+no-name f = by-fault (λ x. zeros 16 ≡ listedName (checked x done)) (λ num p. refl) f

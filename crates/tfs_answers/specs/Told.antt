@@ -5,8 +5,7 @@ use lib.ListN.{take}
 use Rattle.lists.specs.Name.{zeros, padTo}
 use Rattle.tfs_rules.specs.Requests as rules
 use Rattle.tfs_check.specs.declared.Fault.{Fault}
-use Rattle.tfs_check.specs.declared.Fault.the-variants.{Header, Slot, Block}
-use Rattle.tfs_check.specs.Told.{FaultFits}
+use Rattle.tfs_check.specs.Told.{faultTold, FaultFits}
 use Rattle.tfs_answers.specs.declared.Answer.{Answer}
 use Rattle.tfs_answers.specs.declared.Answer.the-variants as answer
 use Rattle.tfs_answers.specs.declared.Done.{Done}
@@ -17,9 +16,7 @@ use Rattle.tfs_answers.specs.declared.Listing.{Listing}
 
 -- a fault of the volume, as a refusal
 abbrev pub faultAnswer : Fault → rules.Answer
-faultAnswer (Header num) = rules.refused num 0
-faultAnswer (Slot num s) = rules.refused num s
-faultAnswer (Block num b) = rules.refused num b
+faultAnswer f = rules.checked (faultTold f) rules.done
 
 abbrev pub answerTold : Answer → rules.Answer
 answerTold (answer.Granted x) = rules.value x
