@@ -11,10 +11,11 @@ use lib.Dec.{leb, ltb, eqb}
 use lib.ListN.{length, getD}
 use lib.Seq.{ext-getD}
 use Rattle.lists.specs.Test.{sameList, to-true, to-false, same-eq, same-refl}
+use Rattle.lists.specs.Name.{zeroAt}
 use Rattle.lists.specs.Word.{word}
 use Rattle.lists.specs.Part.{part, getD-part, length-part}
 use Rattle.lists.specs.Least.{Below, found, none-found}
-use Rattle.romfs_rules.specs.Layout.{fullSize, nameLength, zeroAt, wordSum, next, info, endOf, own, hasList}
+use Rattle.romfs_rules.specs.Layout.{fullSize, nameLength, wordSum, next, info, endOf, own, hasList}
 use Rattle.romfs_rules.specs.Rules.{accepted, refused, overBound, badHeader, badNext, badFirst, badNesting, tooDeep, fault}
 use Rattle.romfs_rules.specs.Facts.{room}
 

@@ -6,6 +6,7 @@ use lib.ListN.{getD}
 use lib.Dec.{ltb, eqb}
 use Rattle.lists.specs.Test.{sameList}
 use Rattle.lists.specs.Least.{least}
+use Rattle.lists.specs.Name.{zeroAt}
 use Rattle.lists.specs.Word.{word}
 use Rattle.lists.specs.Part.{part}
 
@@ -16,10 +17,6 @@ fullSize s = word s 8
 -- n, padded to 16
 abbrev pub pad16 : ℕ → ℕ
 pad16 n = (n + 15) / 16 * 16
-
--- whether the byte at p is zero
-unfoldable pub zeroAt : List ℕ → ℕ → Bool
-zeroAt s p = eqb (getD s p 0) 0
 
 -- Names are zero-ended: the number of bytes before the zero of the name at p, which is looked for within F.
 unfoldable pub nameLength : List ℕ → ℕ → ℕ

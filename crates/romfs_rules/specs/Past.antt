@@ -13,9 +13,10 @@ use lib.Seq.{getD-take, ext-getD}
 use lib.Dec.{ltb, eqb}
 use Rattle.lists.specs.Test.{sameList}
 use Rattle.lists.specs.Least.{least, least-le, least-cong}
+use Rattle.lists.specs.Name.{zeroAt}
 use Rattle.lists.specs.Word.{word, word-cong}
 use Rattle.lists.specs.Part.{part, getD-part}
-use Rattle.romfs_rules.specs.Layout.{fullSize, zeroAt, nameLength, nameEnds, afterName, firstRoot, kind, executable, next, info, size, name, contentAt, endOf, own, isDots, descends, hasList, hasData, wordSum}
+use Rattle.romfs_rules.specs.Layout.{fullSize, nameLength, nameEnds, afterName, firstRoot, kind, executable, next, info, size, name, contentAt, endOf, own, isDots, descends, hasList, hasData, wordSum}
 use Rattle.romfs_rules.specs.Rules.{Verdict, accepted, refused, short21, magic22, size23, sum24, name25, overBound, badName, badSum, badInfo, badSize, badHeader, badNext, badFirst, badNesting, tooDeep, fault}
 use Rattle.romfs_rules.specs.Reached.{along, IsReached, Sound, root}
 use Rattle.romfs_rules.specs.Check.{andThen, visitList, visitEntry, visitAll, walk, towards, seek, isReached, badLink, links, volume, check}

@@ -218,7 +218,7 @@ module _ {img : List ℕ} (g : Image 128 img) where
 
 -- ---- the romfs image
 rom-accepted : romCheck ROM ≡ rom.accepted
-unfolding least word part fullSize romfs.zeroAt nameLength nameEnds afterName firstRoot kind executable next info romfs.size romfs.name contentAt endOf own isDots descends hasList hasData wordSum short21 magic22 size23 sum24 name25 overBound badName badSum badInfo badSize badHeader badNext badFirst badNesting tooDeep fault visitList visitEntry visitAll walk leads towards seek isReached badLink links volume romCheck
+unfolding least word part fullSize zeroAt nameLength nameEnds afterName firstRoot kind executable next info romfs.size romfs.name contentAt endOf own isDots descends hasList hasData wordSum short21 magic22 size23 sum24 name25 overBound badName badSum badInfo badSize badHeader badNext badFirst badNesting tooDeep fault visitList visitEntry visitAll walk leads towards seek isReached badLink links volume romCheck
 rom-accepted = refl
 
 -- every row of the table at once, for any images and buffers of these lengths
