@@ -1,13 +1,12 @@
 -- The least index with a test.
-use mathlib.Core.Path.{_≡_, refl, sym, ap, _∙_, subst}
-use mathlib.Core.Logic.{_≢_}
+use mathlib.Core.Path.{_≡_, refl, sym, subst}
 use mathlib.Core.Bool.{Bool, true, false, not, cond}
-use Prim.Native.Nat.{ℕ, zero, suc, _+_, _≤_, _<_}
+use Prim.Native.Nat.{ℕ, zero, suc, _≤_, _<_}
 use native.Mathlib.Omega.{arith}
 use native.Mathlib.Decide.{decLt, ℕ-discrete}
-use lib.Arith.{lt-of-le-ne, le→nltb}
+use lib.Arith.{lt-of-le-ne}
 use lib.Dec.{T, ltb, ltb→lt, nltb→le, T-not}
-use Rattle.lists.specs.Test.{by-test, cond-yes, cond-no, to-true, no-false, of-true}
+use Rattle.lists.specs.Test.{by-test, cond-yes, cond-no, of-true}
 
 -- the least index below n at which f holds, or n
 unfoldable pub least : (ℕ → Bool) → ℕ → ℕ

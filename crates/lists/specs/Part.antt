@@ -1,7 +1,7 @@
 -- A part of an image, and an image with another part in its place.
-use mathlib.Core.Path.{_≡_, refl, sym, ap, _∙_}
-use mathlib.Core.Logic.{_⊎_, inl, inr, ⊎-elim, _≢_}
-use Prim.Native.Nat.{ℕ, zero, suc, _+_, _*_, _-_, _<_, _≤_}
+use mathlib.Core.Path.{_≡_, sym, ap, _∙_}
+use mathlib.Core.Logic.{_⊎_, ⊎-elim}
+use Prim.Native.Nat.{ℕ, zero, suc, _+_, _-_, _<_, _≤_}
 use native.Mathlib.Omega.{arith}
 use native.Mathlib.Nat.{zero-add, suc-add}
 use mathlib.Core.List.{List, [], _∷_, _++_}
@@ -32,7 +32,7 @@ part-with s n p image e h = rw (drop-at (take s image) _ s (length-take-le s ima
 drop-past : (p q : List ℕ) (n t : ℕ) → length p ≡ n → n ≤ t → drop t (p ++ q) ≡ drop (t - n) q
 drop-past p q n t e h = let k : length p + (t - n) ≡ t = omega arith in rw k at (drop-append-add p q (t - n))
 
-drop-take : (t k : ℕ) (l : List ℕ) → drop t (take (t + k) l) ≡ take k (drop t l)
+pub drop-take : (t k : ℕ) (l : List ℕ) → drop t (take (t + k) l) ≡ take k (drop t l)
 drop-take zero k l = rw zero-add
 drop-take (suc t) k [] = rw (suc-add, take-nil)
 drop-take (suc t) k (x ∷ l) = rw suc-add (drop-take t k l)

@@ -1,12 +1,12 @@
 -- Sums and counts over the numbers below a bound.
 use mathlib.Core.Path.{_≡_, refl, sym, ap, ap₂, _∙_}
 use mathlib.Core.Logic.{_≢_}
-use mathlib.Core.Bool.{Bool, true, false, not, cond}
-use Prim.Native.Nat.{ℕ, zero, suc, _+_, _≤_, _<_, min}
+use mathlib.Core.Bool.{Bool, cond}
+use Prim.Native.Nat.{ℕ, zero, suc, _+_, _≤_, _<_}
 use native.Mathlib.Omega.{arith}
 use native.Mathlib.Decide.{ℕ-discrete}
 use lib.Arith.{lt-of-le-ne}
-use lib.Dec.{T, ltb, eqb, ltb→lt, nltb→le}
+use lib.Dec.{T, eqb}
 use Rattle.lists.specs.Test.{by-test, cond-yes, cond-no, eqb-of, neqb-of}
 
 unfoldable pub sum : (ℕ → ℕ) → ℕ → ℕ

@@ -1,8 +1,8 @@
 -- Find gives the first entry of that name in the list, or 30 where the list has none.
-use Prim.Native.Nat.{ℕ, zero, suc, _+_, _-_, _≤_, _<_}
+use Prim.Native.Nat.{ℕ, zero, suc, _-_, _≤_, _<_}
 use mathlib.Core.Path.{_≡_, refl, sym, ap, subst, _∙_}
 use mathlib.Core.Logic.{_≢_, ⊎-elim}
-use mathlib.Core.Bool.{Bool, true, false, cond}
+use mathlib.Core.Bool.{true, false, cond}
 use mathlib.Core.List.{List}
 use native.Mathlib.Omega.{arith}
 use native.Mathlib.Decide.{ℕ-discrete}
@@ -12,7 +12,7 @@ use lib.Dec.{T, eqb}
 use Rattle.lists.specs.Test.{sameList, same-eq, same-refl, of-true, to-true}
 use Rattle.romfs_rules.specs.Layout.{fullSize, next, name}
 use Rattle.romfs_rules.specs.Rules.{accepted}
-use Rattle.romfs_rules.specs.Reached.{along, IsReached, Sound}
+use Rattle.romfs_rules.specs.Reached.{along, IsReached}
 use Rattle.romfs_rules.specs.Check.{walk, check}
 use Rattle.romfs_rules.specs.Answers.{Answer, granted, denied, firstOf, matchFrom, matchIn, isDirectory, found, find}
 use Rattle.romfs_rules.specs.Facts.{true-false, room, next-from}

@@ -1,30 +1,29 @@
 -- What a passed check says of the parts that the code reads and writes.
-use mathlib.Core.Path.{_≡_, refl, sym, ap, ap₂, _∙_, subst}
-use mathlib.Core.Logic.{_⊎_, inl, inr, ⊎-elim}
-use mathlib.Core.Bool.{Bool, true, false, not, cond}
-use Prim.Native.Nat.{ℕ, zero, suc, _+_, _-_, _*_, _/_, _%_, _≤_, _<_, min}
-use mathlib.Core.List.{List, [], _∷_, _++_}
+use mathlib.Core.Path.{_≡_, sym, ap, _∙_, subst}
+use mathlib.Core.Logic.{⊎-elim}
+use Prim.Native.Nat.{ℕ, zero, suc, _+_, _-_, _*_, _/_, _≤_, _<_}
+use mathlib.Core.List.{List, [], _++_}
 use native.Mathlib.Omega.{arith}
 use native.Mathlib.Nat.{zero-add}
 use lib.ListN.{length, getD, take, drop}
-use lib.Dec.{T, T-not}
-use lib.Seq.{take-at, take-append-le, take-all}
+use lib.Dec.{T-not}
+use lib.Seq.{take-at}
 use Rattle.lists.specs.Test.{cond-no}
 use Rattle.lists.specs.Table.{table, length-table, getD-table, table-cong}
 use Rattle.lists.specs.Part.{part}
 use Rattle.lists.specs.Store.{storeAt}
-use Rattle.tfs_rules.specs.Layout.{slots, need, blocks, block, maxSize, inodeSize, inodeNumber}
-use Rattle.tfs_rules.specs.View.{View, view, viewN, free, used, inode, size, number, place}
+use Rattle.tfs_rules.specs.Layout.{need, blocks, block, inodeSize, inodeNumber}
+use Rattle.tfs_rules.specs.View.{View, view, free, inode, size, number, place, slotOf}
 use Rattle.tfs_rules.specs.Check.{consistent, check, fileClaims}
-use Rattle.tfs_rules.specs.Consistent.{File, Owner, inodeOf, contentOf, Owns, Sound, Consistent}
+use Rattle.tfs_rules.specs.Consistent.{File, Consistent}
 use Rattle.tfs_rules.specs.Consistent as rules
-use Rattle.tfs_rules.specs.CheckMeans.{check-means, used-inode, owns-inside, need-le}
+use Rattle.tfs_rules.specs.CheckMeans.{check-means, used-inode, need-le}
 use Rattle.tfs_rules.specs.Total.{three-blocks}
 use Rattle.tfs_facts.specs.Sizes.{in-image, in-need, size-512}
 use Rattle.tfs_facts.specs.Views.{view-n, view-dir, view-map, inode-block}
-use Rattle.tfs_facts.specs.Stores.{length-block}
+use Rattle.tfs_dir.specs.Find.{findName, slot-of}
 use Rattle.tfs_map.specs.Under.{Under}
-use Rattle.tfs_inode.specs.Claims.{claimList, file-claims, length-claims}
+use Rattle.tfs_inode.specs.Claims.{claimList, file-claims}
 use Rattle.tfs_runs.specs.Place.{at, Inside, at-place}
 use Rattle.tfs_runs.specs.Write.{store-cong}
 
@@ -38,9 +37,6 @@ unfolding claimList contentList
 content-cut b ino rest k e =
     take-at (table (inodeNumber ino) 0 (need 512 (inodeSize ino))) rest (k - 1) (length-table (inodeNumber ino) 0 (need 512 (inodeSize ino)) ∙ omega arith)
 
-pub claims-cut : (b : ℕ) (ino rest : List ℕ) (k : ℕ) → k ≡ 1 + need 512 (inodeSize ino) → take (k - 0) (drop 0 (claimList b ino ++ rest)) ≡ claimList b ino
-claims-cut b ino rest k e = take-at (claimList b ino) rest (k - 0) (length-claims b ino ∙ omega arith)
-
 -- ---- blocks 0 to 2 of any image
 pub dir-is : (img : List ℕ) → view 512 img .dir ≡ part 1024 512 img
 unfolding block
@@ -49,6 +45,10 @@ dir-is img = view-dir 512 img
 pub map-is : (img : List ℕ) → view 512 img .map ≡ part 512 512 img
 unfolding block
 map-is img = view-map 512 img
+
+-- the slot of a name is the one that the code finds
+pub found-in : (img nm : List ℕ) → slotOf 512 (view 512 img) nm ≡ findName (part 1024 512 img) nm
+found-in img nm = slot-of (view 512 img) nm ∙ ap (λ (x : List ℕ). findName x nm) (dir-is img)
 
 module _ (img : List ℕ) (passed : check 512 img ≡ consistent) where
   abbrev v : View

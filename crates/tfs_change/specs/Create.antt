@@ -17,11 +17,11 @@ use Rattle.tfs_facts.specs.Sizes.{size-512}
 use Rattle.tfs_facts.specs.Views.{view-n}
 use Rattle.tfs_facts.specs.Entries.{allowed}
 use Rattle.tfs_facts.specs.Chosen.{CreateGrant, Choice, choice}
-use Rattle.tfs_dir.specs.Find.{findName, findFree, slot-of, free-slot}
+use Rattle.tfs_dir.specs.Find.{findName, findFree, free-slot}
 use Rattle.tfs_map.specs.Under.{front, front-fits}
 use Rattle.tfs_map.specs.Free.{freeBelow, free-blocks, free-length}
 use Rattle.tfs_steps.specs.Place.{Placeable, placeable-below}
-use Rattle.tfs_answers.specs.Ready.{dir-is, map-is}
+use Rattle.tfs_answers.specs.Ready.{dir-is, found-in, map-is}
 
 -- what a refusal with answer a leaves: the image, and a number from 8 on
 abbrev pub Refuses : ℕ → Answer → List ℕ → List ℕ → Type 0
@@ -55,9 +55,6 @@ module _ (img nm : List ℕ) (z : ℕ) where
   new = storeAll 512 img (createStores 512 (view 512 img) nm z)
 
   -- the rules' terms, as the code has them
-  found-in : slotOf 512 v nm ≡ findName (part 1024 512 img) nm
-  found-in = slot-of v nm ∙ ap (λ (d : List ℕ). findName d nm) (dir-is img)
-
   free-in : freeSlot 512 v ≡ findFree (part 1024 512 img)
   free-in = free-slot v ∙ ap findFree (dir-is img)
 
@@ -78,10 +75,10 @@ module _ (img nm : List ℕ) (z : ℕ) where
       pub create-twice : t < 25 → Refuses 10 a new img
       unfolding createView
       create-twice h =
-          refuses 10 a new img (omega arith) (rw (named, le-ltb 65024 z small, found-in, ← found, lt-ltb t 25 h))
+          refuses 10 a new img (omega arith) (rw (named, le-ltb 65024 z small, found-in img nm, ← found, lt-ltb t 25 h))
 
       pub create-fresh : 25 ≤ t → Fresh img nm z
-      create-fresh h = record { named = named; small = small; fresh = omega (arith, found-in) }
+      create-fresh h = record { named = named; small = small; fresh = omega (arith, found-in img nm) }
 
   module _ (f : Fresh img nm z) (s : ℕ) (free : s ≡ findFree (part 1024 512 img)) where
     pub create-full : 25 ≤ s → Refuses 11 a new img

@@ -13,11 +13,11 @@ use Rattle.tfs_rules.specs.Check.{consistent, check, fileClaims}
 use Rattle.tfs_rules.specs.Consistent.{File}
 use Rattle.tfs_rules.specs.Requests.{Answer, done, granted, storeAll, removeStores, removeView}
 use Rattle.tfs_facts.specs.Names.{slot-hit}
-use Rattle.tfs_dir.specs.Find.{findName, slot-of}
+use Rattle.tfs_dir.specs.Find.{findName}
 use Rattle.tfs_map.specs.Under.{Under, front, front-fits}
 use Rattle.tfs_inode.specs.Claims.{claimList, length-claims}
 use Rattle.tfs_steps.specs.Erase.{eraseStores, erase-removes}
-use Rattle.tfs_answers.specs.Ready.{dir-is, inode-small, inode-in, need-few, claims-are, claims-under}
+use Rattle.tfs_answers.specs.Ready.{dir-is, found-in, inode-small, inode-in, need-few, claims-are, claims-under}
 use Rattle.tfs_change.specs.Create.{Refuses, refuses}
 
 -- the name is in slot s of a consistent volume, and b is its inode
@@ -48,20 +48,17 @@ module _ (img nm : List ℕ) where
   abbrev new : List ℕ
   new = storeAll 512 img (removeStores 512 (view 512 img) nm)
 
-  found-in : slotOf 512 v nm ≡ findName (part 1024 512 img) nm
-  found-in = slot-of v nm ∙ ap (λ (d : List ℕ). findName d nm) (dir-is img)
-
   pub remove-unallowed : nameAllowed nm ≡ false → Refuses 8 a new img
   unfolding removeView
   remove-unallowed e = refuses 8 a new img (omega arith) (rw e)
 
   pub remove-missing : (s : ℕ) → nameAllowed nm ≡ true → s ≡ findName (part 1024 512 img) nm → 25 ≤ s → Refuses 13 a new img
   unfolding removeView
-  remove-missing s named found h = refuses 13 a new img (omega arith) (rw (named, found-in, ← found, le-ltb s 25 h))
+  remove-missing s named found h = refuses 13 a new img (omega arith) (rw (named, found-in img nm, ← found, le-ltb s 25 h))
 
   module _ (s b : ℕ) (hit : Hit img nm s b) where
     slot-is : slotOf 512 v nm ≡ s
-    slot-is = found-in ∙ sym (hit .found)
+    slot-is = found-in img nm ∙ sym (hit .found)
 
     file : File 512 v s
     file = subst (File 512 v) slot-is (slot-hit 512 v nm (omega (arith, slot-is)) .0)

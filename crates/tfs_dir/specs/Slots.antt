@@ -1,20 +1,15 @@
 -- The fields of a slot as parts of the directory.
 use mathlib.Core.Path.{_≡_, sym, ap, _∙_}
-use Prim.Native.Nat.{ℕ, zero, suc, _+_, _*_, _-_, _≤_, _<_}
-use native.Mathlib.Nat.{zero-add, suc-add, add-sub-cancel-left}
+use Prim.Native.Nat.{ℕ, _+_, _*_, _-_, _≤_, _<_}
+use native.Mathlib.Nat.{add-sub-cancel-left}
 use native.Mathlib.Omega.{arith}
-use mathlib.Core.List.{List, [], _∷_}
+use mathlib.Core.List.{List}
 use lib.ListN.{length, take, drop, length-drop}
-use lib.Seq.{take-all, take-take, take-nil, drop-drop, length-take-le}
+use lib.Seq.{take-all, take-take, drop-drop, length-take-le}
 use Rattle.lists.specs.Least.{least-le}
 use Rattle.lists.specs.Name.{zeroAt, firstZero, upToZero}
-use Rattle.lists.specs.Part.{part, length-part}
+use Rattle.lists.specs.Part.{part, length-part, drop-take}
 use Rattle.tfs_rules.specs.Layout.{slot, slotName}
-
-drop-take : (t k : ℕ) (l : List ℕ) → drop t (take (t + k) l) ≡ take k (drop t l)
-drop-take zero k l = rw zero-add
-drop-take (suc t) k [] = rw (suc-add, take-nil)
-drop-take (suc t) k (x ∷ l) = rw suc-add (drop-take t k l)
 
 -- a part of a part is a part of the whole
 pub part-part : (s n t m : ℕ) (l : List ℕ) → t + m ≤ n → part t m (part s n l) ≡ part (s + t) m l

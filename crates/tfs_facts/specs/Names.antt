@@ -1,17 +1,17 @@
 -- The slot of a name and of a handle, the slots of a changed directory, and the blocks that a file claims.
 use mathlib.Core.Path.{_≡_, refl, sym, ap, _∙_, subst}
-use mathlib.Core.Logic.{_≢_, _⊎_, inl, inr, ⊎-elim}
-use mathlib.Core.Bool.{Bool, true, false, not, cond, _&&_}
-use Prim.Native.Nat.{ℕ, zero, suc, _+_, _-_, _*_, _/_, _%_, _≤_, _<_}
-use mathlib.Core.List.{List, [], _∷_, _++_}
+use mathlib.Core.Logic.{_≢_, inl, inr, ⊎-elim}
+use mathlib.Core.Bool.{Bool, not, _&&_}
+use Prim.Native.Nat.{ℕ, _+_, _*_, _≤_, _<_}
+use mathlib.Core.List.{List, [], _∷_}
 use native.Mathlib.Omega.{arith}
 use native.Mathlib.Nat.{zero-add}
-use lib.ListN.{length, getD}
+use lib.ListN.{length}
 use lib.Dec.{T, eqb, eqb→eq, T-not, not-T}
-use Rattle.lists.specs.Test.{sameList, same-eq, same-refl, by-test, cond-no, cond-yes, and-of, and-l, and-r, eqb-of}
-use Rattle.lists.specs.Least.{least, least-hit, least-none, least-is, least-le}
+use Rattle.lists.specs.Test.{sameList, same-eq, same-refl, cond-no, and-of, and-l, and-r, eqb-of}
+use Rattle.lists.specs.Least.{least, least-hit, least-none, least-is}
 use Rattle.lists.specs.Table.{table, length-table, getD-table}
-use Rattle.lists.specs.Part.{part, withPart, length-with, part-with, part-with-other}
+use Rattle.lists.specs.Part.{length-with, part-with, part-with-other}
 use Rattle.tfs_rules.specs.Layout.{slots, need, slot, setSlot, sameName}
 use Rattle.tfs_rules.specs.View.{View, free, inode, name, size, number, slotOf, slotWith, freeSlot}
 use Rattle.tfs_rules.specs.Check.{fileClaims}

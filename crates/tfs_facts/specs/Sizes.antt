@@ -1,12 +1,12 @@
 -- The arithmetic of blocks: the facts in which the block size B is multiplied or divided by.
 use mathlib.Core.Path.{_≡_, refl, sym, ap, _∙_}
 use mathlib.Core.Logic.{_⊎_, inl, inr, _≢_}
-use Prim.Native.Nat.{ℕ, zero, suc, _+_, _-_, _*_, _/_, _%_, _≤_, _<_, min}
-use mathlib.Core.List.{List, [], _∷_, _++_}
+use Prim.Native.Nat.{ℕ, suc, _+_, _*_, _/_, _%_, _≤_, _<_}
+use mathlib.Core.List.{List}
 use native.Mathlib.Omega.{arith}
 use native.Mathlib.Decide.{decLt}
-use native.Mathlib.Nat.{div-add-mod', mod-lt, mul-le-mul-right, le-div-iff-mul-le, div-mul-le-self, suc-mul, le-trans, lt-of-le-of-lt}
-use lib.Arith.{digits-lt, digits-div, digits-mod}
+use native.Mathlib.Nat.{div-add-mod', mod-lt, mul-le-mul-right, le-div-iff-mul-le, div-mul-le-self, suc-mul}
+use lib.Arith.{digits-div, digits-mod}
 use lib.ListN.{length}
 use lib.Dec.{lit≤}
 use Rattle.tfs_rules.specs.Layout.{BlockSize, need, blocks}

@@ -6,7 +6,7 @@ use mathlib.Core.List.{List, [], _∷_, _++_}
 use native.Mathlib.Omega.{arith}
 use lib.ListN.{length, getD, length-replicate}
 use Rattle.lists.specs.Name.{zeros}
-use Rattle.lists.specs.Part.{part, withPart, length-part, length-with, part-with, part-with-other, getD-part, getD-with-after}
+use Rattle.lists.specs.Part.{length-part, length-with, part-with, part-with-other, getD-part, getD-with-after}
 use Rattle.tfs_rules.specs.Layout.{block, setBlock}
 use Rattle.tfs_rules.specs.Requests.{Store, store, storeAll, zeroStores}
 use Rattle.tfs_facts.specs.Sizes.{apart-blocks}

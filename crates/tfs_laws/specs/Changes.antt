@@ -1,23 +1,20 @@
 -- The requests that change a volume, as one kind: consistency after each, and the change of the plain view that each is.
-use mathlib.Core.Path.{_≡_, refl, sym, ap, ap₂, _∙_, subst, fun-ext}
-use mathlib.Core.Logic.{_≢_}
-use mathlib.Core.Bool.{Bool, true, false, not, cond, _&&_}
-use Prim.Native.Nat.{ℕ, zero, suc, _+_, _-_, _*_, _≤_, _<_}
-use mathlib.Core.List.{List, [], _∷_, _++_}
-use mathlib.Core.Option.{Option, none, some}
+use mathlib.Core.Path.{_≡_, refl, sym, ap, _∙_, subst}
+use mathlib.Core.Bool.{Bool, not, cond}
+use Prim.Native.Nat.{ℕ, _<_}
+use mathlib.Core.List.{List}
+use mathlib.Core.Option.{Option}
 use native.Mathlib.Omega.{arith}
 use lib.ListN.{length}
 use lib.Dec.{T, ltb, ltb→lt}
 use Rattle.lists.specs.Test.{not-not, to-true, by-test, cond-no}
-use Rattle.tfs_rules.specs.Layout.{BlockSize, slots, sameName}
-use Rattle.tfs_rules.specs.View.{View, view, inode, name, size, slotOf, slotWith, contents, Contents}
+use Rattle.tfs_rules.specs.Layout.{BlockSize, slots}
+use Rattle.tfs_rules.specs.View.{View, view, name, slotOf, slotWith, contents}
 use Rattle.tfs_rules.specs.Check.{Verdict, consistent, broken, check}
-use Rattle.tfs_rules.specs.Consistent.{File, Sound, Consistent}
+use Rattle.tfs_rules.specs.Consistent.{Consistent}
 use Rattle.tfs_rules.specs.CheckMeans.{check-means}
-use Rattle.tfs_rules.specs.Requests.{Answer, value, refused, granted, Outcome, checkedOutcome, stored, storeAll, createView, createStores, create, removeView, removeStores, remove, transferView, write}
+use Rattle.tfs_rules.specs.Requests.{Answer, granted, Outcome, checkedOutcome, stored, storeAll, createView, createStores, create, removeView, removeStores, remove, transferView, write}
 use Rattle.tfs_facts.specs.Views.{view-head}
-use Rattle.tfs_laws.specs.Writes.{Put, put, step}
-use Rattle.tfs_laws.specs.Places.{filesOf}
 use Rattle.tfs_laws.specs.WriteLists.{wr, request, putOf, request-answer, request-image, request-view, request-length, request-sound}
 use Rattle.tfs_facts.specs.Names.{handle-hit}
 use Rattle.tfs_laws.specs.Others.{consistent-to}

@@ -1,9 +1,9 @@
 -- A granted create, then a remove of that name, gives directory and map back byte for byte.
-use mathlib.Core.Path.{_≡_, refl, sym, ap, ap₂, _∙_, subst}
-use mathlib.Core.Logic.{_≢_, _⊎_, inl, inr, ⊎-elim}
-use mathlib.Core.Bool.{Bool, true, false, not, cond, _&&_}
-use Prim.Native.Nat.{ℕ, zero, suc, _+_, _*_, _≤_, _<_}
-use mathlib.Core.List.{List, [], _∷_, _++_}
+use mathlib.Core.Path.{_≡_, sym, ap, ap₂, _∙_, subst}
+use mathlib.Core.Logic.{_≢_}
+use mathlib.Core.Bool.{not}
+use Prim.Native.Nat.{ℕ, suc, _+_, _*_, _≤_, _<_}
+use mathlib.Core.List.{List, [], _∷_}
 use native.Mathlib.Omega.{arith}
 use lib.ListN.{length, getD, length-replicate, getD-replicate}
 use lib.Seq.{ext-getD}
@@ -13,16 +13,16 @@ use Rattle.lists.specs.Test.{allZero, zero-bytes, cond-no, yes-yes}
 use Rattle.lists.specs.Table.{table, table-cong, table-getD}
 use Rattle.lists.specs.Part.{part, withPart, length-part, with-with, with-same}
 use Rattle.tfs_rules.specs.Layout.{BlockSize, slots, block, slot, setSlot, setBits, mapBit, need, entry, slotFree, nameAllowed}
-use Rattle.tfs_rules.specs.View.{View, view, free, inode, size, number, slotOf, freeSlot}
-use Rattle.tfs_rules.specs.Check.{consistent, fileClaims}
-use Rattle.tfs_rules.specs.Consistent.{File, Consistent}
+use Rattle.tfs_rules.specs.View.{View, view, free, size, number, slotOf, freeSlot}
+use Rattle.tfs_rules.specs.Check.{fileClaims}
+use Rattle.tfs_rules.specs.Consistent.{Consistent}
 use Rattle.tfs_rules.specs.CheckMeans.{check-means}
 use Rattle.tfs_rules.specs.Requests.{Answer, done, refused, granted, Outcome, storeAll, create, createStores, chosen, removeView, removeStores, remove, stored}
 use Rattle.tfs_facts.specs.Views.{view-dir, view-map, length-dir}
-use Rattle.tfs_facts.specs.MapBits.{In, in-at, Distinct, setBits-undo}
+use Rattle.tfs_facts.specs.MapBits.{in-at, Distinct, setBits-undo}
 use Rattle.tfs_facts.specs.Names.{slot-is, free-hit, claims-is, name-refl}
 use Rattle.tfs_facts.specs.Entries.{length-entry, allowed}
-use Rattle.tfs_facts.specs.Chosen.{CreateGrant, Choice, choice}
+use Rattle.tfs_facts.specs.Chosen.{CreateGrant, choice}
 use Rattle.tfs_laws.specs.Creates as made
 use Rattle.tfs_laws.specs.Removes as removed
 use Rattle.tfs_laws.specs.Changes.{Passed, create-granted, create-image, remove-is}

@@ -1,32 +1,31 @@
 -- Create: the volume stays consistent, and exactly the created name comes to stand, with zeros.
-use mathlib.Core.Path.{_≡_, refl, sym, ap, ap₂, _∙_, subst, subst₂}
+use mathlib.Core.Path.{_≡_, sym, ap, ap₂, _∙_, subst}
 use mathlib.Core.Logic.{_≢_, _⊎_, inl, inr, ⊎-elim, _↔_}
-use mathlib.Core.Bool.{Bool, true, false, not, cond, _&&_}
-use Prim.Native.Nat.{ℕ, zero, suc, _+_, _-_, _*_, _/_, _%_, _≤_, _<_, min}
-use mathlib.Core.List.{List, [], _∷_, _++_}
-use mathlib.Core.Option.{Option, none, some}
+use mathlib.Core.Bool.{Bool, true, false, not, cond}
+use Prim.Native.Nat.{ℕ, zero, suc, _+_, _*_, _/_, _%_, _≤_, _<_}
+use mathlib.Core.List.{List, [], _∷_}
+use mathlib.Core.Option.{some}
 use native.Mathlib.Omega.{arith}
 use native.Mathlib.Decide.{ℕ-discrete, decLt}
-use lib.ListN.{length, getD, take, drop, length-take, length-drop, getD-replicate}
-use lib.Seq.{getD-take, getD-drop, drop-cons}
-use lib.Dec.{T, ltb, eqb, ltb→lt, nltb→le, lt→ltb, T-not}
+use lib.ListN.{length, getD, drop, length-drop, getD-replicate}
+use lib.Seq.{getD-drop, drop-cons}
+use lib.Dec.{T, ltb, ltb→lt, nltb→le, T-not}
 use Rattle.lists.specs.Name.{zeros}
 use Rattle.lists.specs.Test.{by-test, cond-yes, cond-no, not-not}
 use Rattle.lists.specs.Table.{table, table-cong, table-same}
-use Rattle.tfs_rules.specs.Layout.{BlockSize, slots, block, setBlock, slot, setSlot, setBits, mapBit, mapByte, sameName, slotFree, slotInode, slotName, slotUsed, need, maxSize, numbers, nameAllowed, entry, inodeBlock, inodeSize, inodeNumber}
+use Rattle.tfs_rules.specs.Layout.{BlockSize, slots, block, setBlock, slot, setSlot, setBits, mapBit, sameName, slotFree, slotInode, slotName, slotUsed, need, maxSize, numbers, nameAllowed, entry, inodeBlock, inodeSize, inodeNumber}
 use Rattle.tfs_rules.specs.View.{View, view, free, used, inode, name, size, number, slotOf, freeSlot, freeBlocks, place, content, contents}
 use Rattle.tfs_rules.specs.Consistent.{File, Owner, inodeOf, contentOf, Owns, Owned, Inside, Sound, Consistent}
 use Rattle.tfs_rules.specs.Claims.{slotIn, owns-file}
 use Rattle.tfs_rules.specs.CheckMeans.{owns-inside, same-sym, need-le, range-in}
-use Rattle.tfs_rules.specs.Room.{free-count, FreeIn, free-member, free-rising}
-use Rattle.tfs_rules.specs.Requests.{Answer, value, refused, granted, Store, store, storeAll, zeroStores, freeFrom, chosen, placeStores, createStores, createView}
+use Rattle.tfs_rules.specs.Requests.{Answer, value, refused, granted, Store, store, storeAll, zeroStores, chosen, placeStores, createStores, createView}
 use Rattle.tfs_facts.specs.Sizes.{in-image, in-need, in-block}
 use Rattle.tfs_facts.specs.Views.{view-n, view-map, view-dir, length-map, length-dir, inode-block}
-use Rattle.tfs_facts.specs.Stores.{length-block, Fits, Away, length-storeAll, stored-away, stored-first, storeAll-append, zero-fits, zero-away, zeroed, block-same, length-setBlock, byte-at}
+use Rattle.tfs_facts.specs.Stores.{Fits, length-storeAll, stored-away, stored-first, storeAll-append, zero-fits, zero-away, zeroed, block-same, length-setBlock, byte-at}
 use Rattle.tfs_facts.specs.MapBits.{length-setBits, In, in-dec, in-at, at-in, mapped-all, Mapped, bits-kept, bits-set}
 use Rattle.tfs_facts.specs.Chosen.{CreateGrant, Picked, Choice, choice}
-use Rattle.tfs_laws.specs.Frame.{Frame, n-same, name-same, file-to, file-from, owns-to, owns-from}
-use Rattle.tfs_facts.specs.Names.{name-refl, name-trans, slot-hit, slot-miss, slot-is, free-hit, length-setSlot, slot-set, slot-unset}
+use Rattle.tfs_laws.specs.Frame.{Frame, n-same, name-same, file-from, owns-to, owns-from}
+use Rattle.tfs_facts.specs.Names.{slot-miss, slot-is, free-hit, length-setSlot, slot-set, slot-unset}
 use Rattle.tfs_laws.specs.Others.{consistent-to, stands, formed-to, apart-to, small-to, inside-to, rest-to, contents-other}
 use Rattle.tfs_laws.specs.Removes.{low-inside, map-inside}
 use Rattle.tfs_facts.specs.Entries.{Allowed, allowed, length-entry, entry-inode, entry-name, entry-taken, entry-used, length-inode, inode-size, inode-number, inode-rest}

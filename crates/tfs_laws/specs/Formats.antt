@@ -13,17 +13,17 @@ use lib.Dec.{T, ltb, eqb, ltb→lt, nltb→le, T-not}
 use Rattle.lists.specs.Test.{zero-bytes, all-zero, by-test, cond-yes, cond-no, and-l, no-and, yes-yes, of-true}
 use Rattle.lists.specs.Least.{least-all}
 use Rattle.lists.specs.Name.{zeros, padTo}
-use Rattle.lists.specs.Part.{part, getD-part, getD-with-after}
+use Rattle.lists.specs.Part.{part, getD-part}
 use Rattle.lists.specs.Word.{word, bytes4, word-bytes4}
 use Rattle.lists.specs.Bits.{bitOf}
-use Rattle.tfs_rules.specs.Layout.{BlockSize, slots, block, setBlock, magic, volumeName, mapByte, mapBit, setBits, slot, slotFree, labelAllowed, sameName}
+use Rattle.tfs_rules.specs.Layout.{BlockSize, slots, magic, volumeName, mapByte, mapBit, setBits, slot, slotFree, labelAllowed, sameName}
 use Rattle.tfs_rules.specs.View.{View, view, free, name, slotOf, contents}
 use Rattle.tfs_rules.specs.Check.{tooShort}
 use Rattle.tfs_rules.specs.Consistent.{File, Sound, Consistent}
 use Rattle.tfs_rules.specs.Claims.{slotIn, owns-file}
-use Rattle.tfs_rules.specs.Requests.{done, granted, Outcome, Store, store, storeAll, refuse, formatStores, format}
+use Rattle.tfs_rules.specs.Requests.{done, granted, Outcome, store, storeAll, refuse, formatStores, format}
 use Rattle.tfs_facts.specs.Views.{view-head, view-map, view-dir}
-use Rattle.tfs_facts.specs.Stores.{Fits, Away, length-storeAll, stored-first, fits-up, stored-past, stored-at}
+use Rattle.tfs_facts.specs.Stores.{Fits, length-storeAll, stored-first, fits-up, stored-past, stored-at}
 use Rattle.tfs_facts.specs.Entries.{length-pad, zeros-zero}
 use Rattle.tfs_laws.specs.Others.{stands-not}
 use Rattle.tfs_facts.specs.MapBits.{In, Mapped, length-setBits, bits-kept, bits-set}

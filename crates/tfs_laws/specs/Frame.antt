@@ -1,18 +1,18 @@
 -- Two images whose volumes differ in one slot only: every other file is as it was.
 use mathlib.Core.Path.{_≡_, refl, sym, ap, ap₂, _∙_, subst}
 use mathlib.Core.Logic.{_≢_}
-use mathlib.Core.Bool.{Bool, true, false, not, cond, _&&_}
-use Prim.Native.Nat.{ℕ, zero, suc, _+_, _-_, _*_, _/_, _%_, _≤_, _<_}
-use mathlib.Core.List.{List, [], _∷_, _++_}
+use mathlib.Core.Bool.{Bool, not, cond}
+use Prim.Native.Nat.{ℕ, _+_, _*_, _/_, _%_, _<_}
+use mathlib.Core.List.{List, []}
 use native.Mathlib.Omega.{arith}
 use lib.ListN.{length, getD}
 use lib.Dec.{T}
-use Rattle.lists.specs.Test.{by-test, cond-yes, cond-no}
+use Rattle.lists.specs.Test.{by-test, cond-no}
 use Rattle.lists.specs.Table.{table, table-cong}
 use Rattle.tfs_rules.specs.Layout.{slots, need, blocks, block, slot, slotInode, slotName, slotFree, slotUsed, inRange, inodeSize, inodeNumber}
 use Rattle.tfs_rules.specs.View.{View, view, inodeAt, free, used, inode, name, size, number, place, content}
-use Rattle.tfs_rules.specs.Consistent.{File, Owner, inodeOf, contentOf, Owns, Inside, Sound}
-use Rattle.tfs_rules.specs.Claims.{slotIn, owns-file}
+use Rattle.tfs_rules.specs.Consistent.{File, Owner, inodeOf, contentOf, Owns, Inside}
+use Rattle.tfs_rules.specs.Claims.{slotIn}
 use Rattle.tfs_rules.specs.CheckMeans.{in-range}
 use Rattle.tfs_facts.specs.Sizes.{in-need, in-block}
 use Rattle.tfs_facts.specs.Views.{view-n, view-dir, inodes-at}

@@ -1,13 +1,12 @@
 -- What the rules ignore has no say: the rest of block 0, map bits from N on, the bytes of block 2 behind the slots.
 use mathlib.Core.Path.{_≡_, refl, sym, ap, ap₂, _∙_, subst}
-use mathlib.Core.Logic.{_≢_}
-use mathlib.Core.Bool.{Bool, true, false, not, cond, _&&_, _||_, Bool·beq}
+use mathlib.Core.Bool.{Bool, not, cond, _&&_, _||_, Bool·beq}
 use Prim.Native.Nat.{ℕ, zero, suc, _+_, _-_, _*_, _/_, _%_, _≤_, _<_, min}
 use mathlib.Core.List.{List, [], _∷_, _++_}
 use native.Mathlib.Omega.{arith}
 use native.Mathlib.Nat.{zero-add}
 use lib.ListN.{length, getD, take, drop, length-take, length-drop}
-use lib.Dec.{T, leb, ltb, eqb, leb→le, ltb→lt}
+use lib.Dec.{leb, ltb, eqb, leb→le, ltb→lt}
 use Rattle.lists.specs.Test.{by-test, cond-yes, cond-no, and-l}
 use Rattle.lists.specs.Least.{least, least-cong}
 use Rattle.lists.specs.Sum.{sum, sum-cong}

@@ -1,14 +1,10 @@
 -- What create, remove and write keep: block 0, the directory's bytes past the last slot, and the map's bits from N on.
 use mathlib.Core.Path.{_≡_, refl, sym, ap, _∙_, subst}
-use mathlib.Core.Logic.{inl}
-use mathlib.Core.Bool.{false}
 use Prim.Native.Nat.{ℕ, suc, _+_, _*_, _/_, _≤_, _<_, min}
 use mathlib.Core.List.{List, [], _∷_, _++_, append-assoc}
 use native.Mathlib.Omega.{arith}
 use native.Mathlib.Nat.{div-mul-le-self, mul-le-mul-right}
-use native.Mathlib.Decide.{decLt}
-use lib.ListN.{length, getD, length-take}
-use lib.Seq.{getD-take}
+use lib.ListN.{length, getD}
 use lib.Dec.{T}
 use Rattle.lists.specs.Test.{by-test}
 use Rattle.lists.specs.Name.{zeros}
@@ -20,8 +16,7 @@ use Rattle.tfs_rules.specs.Check.{Verdict, consistent, broken, check, fileClaim
 use Rattle.tfs_rules.specs.Consistent.{File, Inside, Consistent}
 use Rattle.tfs_rules.specs.CheckMeans.{check-means, owns-inside}
 use Rattle.tfs_rules.specs.Total.{three-blocks}
-use Rattle.tfs_rules.specs.Room.{FreeIn, free-member}
-use Rattle.tfs_rules.specs.Requests.{granted, Outcome, checkedOutcome, Store, store, storeAll, zeroStores, freeFrom, chosen, placeStores, createStores, create, removeStores, remove, write}
+use Rattle.tfs_rules.specs.Requests.{granted, Outcome, checkedOutcome, Store, store, storeAll, zeroStores, chosen, placeStores, createStores, create, removeStores, remove, write}
 use Rattle.tfs_facts.specs.Sizes.{after-block}
 use Rattle.tfs_facts.specs.Views.{view-n, view-head, view-map, view-dir, length-map, length-dir}
 use Rattle.tfs_facts.specs.Stores.{Fits, Away, stored-away, stored-first, zero-fits, zero-away, fits-up, stored-at, fits-append, away-append}
@@ -30,7 +25,7 @@ use Rattle.tfs_laws.specs.WriteLists.{wr, request, request-view}
 use Rattle.tfs_facts.specs.Names.{slot-hit, length-setSlot, claims-owner}
 use Rattle.tfs_facts.specs.Entries.{length-pad, Allowed, allowed, length-entry}
 use Rattle.tfs_laws.specs.Removes.{map-inside}
-use Rattle.tfs_facts.specs.Chosen.{CreateGrant, Picked, Choice, choice}
+use Rattle.tfs_facts.specs.Chosen.{CreateGrant, choice}
 use Rattle.tfs_laws.specs.Changes.{Change, creates, removes, writes, perform, create-image, create-granted, remove-image, remove-granted, refused-keeps}
 
 -- what requests other than format keep

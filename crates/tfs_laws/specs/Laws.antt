@@ -1,11 +1,10 @@
 -- The laws of requests (demand 3), at the block size 512: one claim each, over all consistent volumes.
 -- Each file that is named here proves its law over any block size.
-use mathlib.Core.Path.{_≡_, refl}
-use Prim.Native.Nat.{ℕ, _≤_, _<_}
+use mathlib.Core.Path.{_≡_}
+use Prim.Native.Nat.{ℕ}
 use mathlib.Core.List.{List}
-use native.Mathlib.Omega.{arith}
-use lib.Dec.{T, lit≤, lit<}
-use Rattle.tfs_rules.specs.Layout.{BlockSize, sameName}
+use lib.Dec.{T, lit<}
+use Rattle.tfs_rules.specs.Layout.{sameName}
 use Rattle.tfs_rules.specs.View.{view, contents}
 use Rattle.tfs_rules.specs.Consistent.{Consistent}
 use Rattle.tfs_rules.specs.CheckMeans.{check-means}

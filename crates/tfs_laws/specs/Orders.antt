@@ -1,18 +1,16 @@
 -- Two requests out of create, remove and write on different names end alike in either order.
-use mathlib.Core.Path.{_≡_, refl, sym, ap, ap₂, _∙_, subst, fun-ext}
+use mathlib.Core.Path.{_≡_, refl, sym, ap, _∙_, subst, fun-ext}
 use mathlib.Core.Logic.{_≢_}
-use mathlib.Core.Bool.{Bool, true, false, not, cond, _&&_}
-use Prim.Native.Nat.{ℕ, zero, suc, _+_, _≤_, _<_}
-use mathlib.Core.List.{List, [], _∷_, _++_}
-use mathlib.Core.Option.{Option, none, some}
+use Prim.Native.Nat.{ℕ, _<_}
+use mathlib.Core.List.{List}
 use native.Mathlib.Omega.{arith}
 use lib.Dec.{T, T-not}
 use Rattle.tfs_rules.specs.Layout.{BlockSize, slots, sameName}
-use Rattle.tfs_rules.specs.View.{View, view, free, inode, name, slotOf, slotWith, freeSlot, contents, Contents}
-use Rattle.tfs_rules.specs.Check.{consistent, check}
-use Rattle.tfs_rules.specs.Consistent.{File, Sound, Consistent}
+use Rattle.tfs_rules.specs.View.{View, view, free, name, slotOf, slotWith, freeSlot, contents, Contents}
+use Rattle.tfs_rules.specs.Check.{consistent}
+use Rattle.tfs_rules.specs.Consistent.{Sound, Consistent}
 use Rattle.tfs_rules.specs.CheckMeans.{check-means, same-sym}
-use Rattle.tfs_rules.specs.Requests.{granted, storeAll, createStores, create, removeStores, remove, write}
+use Rattle.tfs_rules.specs.Requests.{granted, storeAll, createStores, removeStores, write}
 use Rattle.tfs_laws.specs.WriteLists.{wr, request, request-view}
 use Rattle.tfs_laws.specs.Frame.{Frame, inode-same, name-same, file-to}
 use Rattle.tfs_facts.specs.Names.{slot-hit, handle-hit, handle-is, free-hit}

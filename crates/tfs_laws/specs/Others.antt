@@ -1,18 +1,17 @@
 -- Across a frame: what a sound volume's other files keep, and what stands under other names.
-use mathlib.Core.Path.{_≡_, refl, sym, ap, ap₂, _∙_, subst, subst₂}
+use mathlib.Core.Path.{_≡_, refl, sym, ap, _∙_, subst, subst₂}
 use mathlib.Core.Logic.{_≢_, _⊎_, inl, inr, ⊎-elim}
-use mathlib.Core.Bool.{Bool, true, false, not, cond, _&&_}
-use Prim.Native.Nat.{ℕ, zero, suc, _+_, _-_, _*_, _≤_, _<_}
-use mathlib.Core.List.{List, [], _∷_, _++_}
-use mathlib.Core.Option.{Option, none, some}
+use Prim.Native.Nat.{ℕ, _*_, _≤_, _<_}
+use mathlib.Core.List.{List}
+use mathlib.Core.Option.{none, some}
 use native.Mathlib.Omega.{arith}
 use native.Mathlib.Decide.{decLt}
 use lib.ListN.{length, getD}
-use lib.Dec.{T, ltb, lt→ltb, nltb→le}
+use lib.Dec.{T, ltb, lt→ltb}
 use lib.Arith.{le→nltb}
 use Rattle.lists.specs.Test.{cond-yes, cond-no}
 use Rattle.lists.specs.Word.{word}
-use Rattle.tfs_rules.specs.Layout.{slots, block, sameName, need, maxSize, numbers, volumeName, magic}
+use Rattle.tfs_rules.specs.Layout.{slots, block, sameName, need, maxSize, numbers, volumeName}
 use Rattle.tfs_rules.specs.View.{View, view, free, used, name, size, number, slotOf, content, contents}
 use Rattle.tfs_rules.specs.Consistent.{File, Inside, Sound, Consistent}
 use Rattle.tfs_facts.specs.Views.{view-head}

@@ -1,22 +1,21 @@
 -- On a sound volume the places of all files' bytes are apart, and a write to a file keeps the view.
 use mathlib.Core.Path.{_≡_, refl, sym, ap, ap₂, _∙_, subst}
 use mathlib.Core.Logic.{_≢_}
-use mathlib.Core.Bool.{Bool, true, false, not, cond, _&&_}
-use Prim.Native.Nat.{ℕ, zero, suc, _+_, _-_, _*_, _/_, _%_, _≤_, _<_, min}
-use mathlib.Core.List.{List, [], _∷_, _++_}
+use mathlib.Core.Bool.{cond}
+use Prim.Native.Nat.{ℕ, _+_, _*_, _/_, _%_, _<_, min}
+use mathlib.Core.List.{List, []}
 use native.Mathlib.Omega.{arith}
-use lib.ListN.{length, getD}
-use lib.Dec.{T, leb, ltb, leb→le, ltb→lt, T-not}
-use Rattle.lists.specs.Test.{by-test, cond-yes, cond-no, and-l, and-r}
+use lib.ListN.{length}
+use Rattle.lists.specs.Test.{by-test, cond-no}
 use Rattle.lists.specs.Table.{table, table-cong}
-use Rattle.lists.specs.Part.{part, part-ext}
+use Rattle.lists.specs.Part.{part-ext}
 use Rattle.tfs_rules.specs.Layout.{slots, need, blocks, block, slot, slotInode, inRange}
 use Rattle.tfs_rules.specs.View.{View, view, viewN, inodeAt, free, inode, size, number, place}
-use Rattle.tfs_rules.specs.Consistent.{File, Owner, inodeOf, contentOf, Owns, Inside, Sound}
+use Rattle.tfs_rules.specs.Consistent.{File, inodeOf, contentOf, Owns, Inside, Sound}
 use Rattle.tfs_rules.specs.CheckMeans.{in-range}
 use Rattle.tfs_facts.specs.Sizes.{split-block, split-offset, rejoin, in-need, in-block, in-image}
-use Rattle.tfs_facts.specs.Views.{view-n, view-dir, free-inode, has}
-use Rattle.tfs_laws.specs.Writes.{Put, Files, Laid, effect, step, in-file, length-step, step-other}
+use Rattle.tfs_facts.specs.Views.{view-n, free-inode, has}
+use Rattle.tfs_laws.specs.Writes.{Put, Files, Laid, step, length-step, step-other}
 
 abbrev pub filesOf : ℕ → View → Files
 filesOf B v = record { size = λ s. size v s; place = λ s p. place B v s p }

@@ -1,30 +1,28 @@
 -- Remove: the volume stays consistent, and exactly the removed name no longer stands.
-use mathlib.Core.Path.{_≡_, refl, sym, ap, ap₂, _∙_, subst}
+use mathlib.Core.Path.{_≡_, refl, sym, ap, _∙_, subst}
 use mathlib.Core.Logic.{_≢_, _⊎_, inl, inr, ⊎-elim, _↔_}
-use mathlib.Core.Bool.{Bool, true, false, not, cond, _&&_}
-use Prim.Native.Nat.{ℕ, zero, suc, _+_, _-_, _*_, _/_, _%_, _≤_, _<_}
-use mathlib.Core.List.{List, [], _∷_, _++_}
-use mathlib.Core.Option.{Option, none, some}
+use mathlib.Core.Bool.{false}
+use Prim.Native.Nat.{ℕ, zero, suc, _+_, _*_, _≤_, _<_}
+use mathlib.Core.List.{List, [], _∷_}
+use mathlib.Core.Option.{none}
 use native.Mathlib.Omega.{arith}
 use native.Mathlib.Decide.{ℕ-discrete, decLt}
-use lib.ListN.{length, getD}
-use lib.Dec.{T, ltb, eqb, ltb→lt, nltb→le, lt→ltb, T-not}
+use lib.ListN.{length}
+use lib.Dec.{T, T-not}
 use Rattle.lists.specs.Name.{zeros}
 use Rattle.lists.specs.Test.{by-test, cond-yes, cond-no, allZero}
-use Rattle.tfs_rules.specs.Layout.{BlockSize, slots, block, setBlock, slot, setSlot, setBits, mapBit, mapByte, sameName, slotFree, need, maxSize, numbers, volumeName, magic}
-use Rattle.tfs_rules.specs.View.{View, view, free, used, inode, name, size, number, slotOf, content, contents}
+use Rattle.tfs_rules.specs.Layout.{BlockSize, slots, block, setBlock, slot, setSlot, setBits, mapBit, mapByte, sameName, slotFree}
+use Rattle.tfs_rules.specs.View.{View, view, free, name, slotOf, contents}
 use Rattle.tfs_rules.specs.Check.{fileClaims}
-use Rattle.tfs_rules.specs.Consistent.{File, Owner, inodeOf, contentOf, Owns, Owned, Inside, Sound, Consistent}
+use Rattle.tfs_rules.specs.Consistent.{File, Owner, Owns, Owned, Inside, Sound, Consistent}
 use Rattle.tfs_rules.specs.Claims.{slotIn, owns-file}
 use Rattle.tfs_rules.specs.CheckMeans.{owns-inside, same-sym}
-use Rattle.tfs_rules.specs.Requests.{Store, store, storeAll, removeStores}
-use Rattle.tfs_facts.specs.Sizes.{in-image}
+use Rattle.tfs_rules.specs.Requests.{store, storeAll, removeStores}
 use Rattle.tfs_facts.specs.Views.{view-n, view-map, view-dir, length-map, length-dir}
-use Rattle.tfs_laws.specs.Content.{standing, contents-at}
-use Rattle.tfs_facts.specs.Stores.{length-block, Fits, Away, length-storeAll, stored-away, stored-first, block-same, length-setBlock}
+use Rattle.tfs_facts.specs.Stores.{Fits, length-storeAll, stored-away, stored-first, block-same, length-setBlock}
 use Rattle.tfs_facts.specs.MapBits.{in-map, length-setBits, In, in-dec, mapped-all, Mapped, bits-kept, bits-set}
-use Rattle.tfs_laws.specs.Frame.{Frame, n-same, slot-same, free-same, used-same, inode-same, name-same, size-same, number-same, file-to, file-from, owns-to, owns-from, content-same}
-use Rattle.tfs_facts.specs.Names.{name-refl, name-trans, slot-hit, slot-miss, slot-is, length-setSlot, slot-set, slot-unset, claims-owner, owner-claims}
+use Rattle.tfs_laws.specs.Frame.{Frame, n-same, name-same, file-from, owns-to, owns-from}
+use Rattle.tfs_facts.specs.Names.{name-trans, slot-hit, length-setSlot, slot-set, slot-unset, claims-owner, owner-claims}
 use Rattle.tfs_laws.specs.Others.{consistent-to, stands-not, formed-to, apart-to, small-to, inside-to, rest-to, contents-other}
 use Rattle.tfs_laws.specs.Ledger.{change, gone}
 

@@ -1,23 +1,23 @@
 -- Write: exactly the covered bytes of exactly its file change.
-use mathlib.Core.Path.{_≡_, refl, sym, ap, ap₂, _∙_, subst}
+use mathlib.Core.Path.{_≡_, refl, sym, ap, _∙_, subst}
 use mathlib.Core.Logic.{_≢_}
-use mathlib.Core.Bool.{Bool, true, false, not, cond, _&&_}
-use Prim.Native.Nat.{ℕ, zero, suc, _+_, _-_, _*_, _/_, _%_, _≤_, _<_, min}
-use mathlib.Core.List.{List, [], _∷_, _++_}
-use mathlib.Core.Option.{Option, none, some, Option·map}
+use mathlib.Core.Bool.{Bool, not, cond, _&&_}
+use Prim.Native.Nat.{ℕ, _+_, _-_, _≤_, _<_}
+use mathlib.Core.List.{List}
+use mathlib.Core.Option.{none, some}
 use native.Mathlib.Omega.{arith}
-use lib.ListN.{length, getD, take, length-take}
-use lib.Dec.{T, leb, ltb, eqb, leb→le, ltb→lt, le→leb, lt→ltb, eqb-refl, T-not}
+use lib.ListN.{length, getD, length-take}
+use lib.Dec.{T, leb, ltb, eqb, leb→le, ltb→lt, le→leb, lt→ltb, T-not}
 use Rattle.lists.specs.Test.{by-test, cond-yes, cond-no, iff-eq, and-of, and-l, and-r, no-and, neqb-of}
-use Rattle.lists.specs.Table.{table, table-cong}
+use Rattle.lists.specs.Table.{table-cong}
 use Rattle.tfs_rules.specs.Layout.{slots, sameName}
-use Rattle.tfs_rules.specs.View.{View, view, free, name, size, slotOf, slotWith, place, content, contents}
+use Rattle.tfs_rules.specs.View.{View, view, name, size, slotOf, place, content, contents}
 use Rattle.tfs_rules.specs.Consistent.{File, Sound}
 use Rattle.tfs_rules.specs.CheckMeans.{same-sym}
 use Rattle.tfs_laws.specs.Content.{standing, contents-at, contents-in, standing-map, content-by}
-use Rattle.tfs_laws.specs.Writes.{Put, put, Files, effect, step, covers, covered, uncovered, Covered, step-byte}
+use Rattle.tfs_laws.specs.Writes.{put, effect, step, covers, covered, uncovered, Covered, step-byte}
 use Rattle.tfs_laws.specs.Places.{filesOf, laid, view-kept}
-use Rattle.tfs_facts.specs.Names.{name-refl, name-trans, slot-hit, slot-is}
+use Rattle.tfs_facts.specs.Names.{slot-hit, slot-is}
 use Rattle.tfs_laws.specs.Ledger.{change, over, wrote}
 
 module _ (B : ℕ) (pos : 0 < B) (img : List ℕ) (ok : Sound B (view B img)) (s : ℕ) (f : File B (view B img) s) (o : ℕ) (bs : List ℕ) where

@@ -1,27 +1,27 @@
 -- Lists of writes on a consistent volume: every answer, every byte of every file, and every other byte; and pieces against the joined write.
-use mathlib.Core.Path.{_≡_, refl, sym, ap, ap₂, _∙_, subst, fun-ext}
+use mathlib.Core.Path.{_≡_, refl, sym, ap, ap₂, _∙_, fun-ext}
 use mathlib.Core.Logic.{_≢_}
-use mathlib.Core.Bool.{Bool, true, false, not, cond, _&&_}
-use Prim.Native.Nat.{ℕ, zero, suc, _+_, _-_, _*_, _/_, _%_, _≤_, _<_, min}
-use mathlib.Core.List.{List, [], _∷_, _++_, map, append-nil}
+use mathlib.Core.Bool.{Bool, not, cond, _&&_}
+use Prim.Native.Nat.{ℕ, _+_, _-_, _*_, _≤_, _<_, min}
+use mathlib.Core.List.{List, [], _∷_, _++_, map}
 use native.Mathlib.Omega.{arith}
 use native.Mathlib.Decide.{decLe}
-use lib.ListN.{length, getD, take, drop, length-take, length-append}
+use lib.ListN.{length, getD, take, length-take, length-append}
 use lib.Seq.{take-all, take-nil}
-use lib.Dec.{T, leb, ltb, eqb, ltb→lt, nltb→le, lt→ltb}
-use Rattle.lists.specs.Test.{by-test, cond-yes, cond-no, no-false, to-true, yes-yes}
+use lib.Dec.{leb, ltb, eqb, ltb→lt, nltb→le}
+use Rattle.lists.specs.Test.{by-test, cond-yes, cond-no, yes-yes}
 use Rattle.lists.specs.Least.{least-le}
 use Rattle.lists.specs.Store.{storeAt}
 use Rattle.tfs_rules.specs.Layout.{slots, inodeSize}
-use mathlib.Core.Option.{Option, none, some, Option·map}
-use Rattle.lists.specs.Table.{table, length-table, getD-table, table-cong}
-use Rattle.tfs_rules.specs.View.{View, view, free, inode, size, slotWith, slotOf, place, content, contents}
-use Rattle.tfs_rules.specs.Check.{Verdict, consistent, broken, check, checkView, tooShort}
+use mathlib.Core.Option.{Option·map}
+use Rattle.lists.specs.Table.{table}
+use Rattle.tfs_rules.specs.View.{View, view, free, inode, size, slotWith, slotOf, place, contents}
+use Rattle.tfs_rules.specs.Check.{consistent, broken, check, checkView, tooShort}
 use Rattle.tfs_rules.specs.Consistent.{Sound}
-use Rattle.tfs_rules.specs.Requests.{Answer, done, value, unused, file, refused, granted, Outcome, checkedOutcome, counted, transferView, writeImage, write}
+use Rattle.tfs_rules.specs.Requests.{Answer, done, value, unused, file, refused, granted, Outcome, counted, transferView, writeImage, write}
 use Rattle.tfs_facts.specs.Views.{inodes-out}
-use Rattle.tfs_laws.specs.Content.{standing, contents-at, contents-in, standing-map, content-by}
-use Rattle.tfs_laws.specs.Writes.{Put, put, Files, Laid, effect, step, run, covers, lastOf, last-write, rest-kept, length-step, joined, step-join, take-join}
+use Rattle.tfs_laws.specs.Content.{contents-at, contents-in, standing-map, content-by}
+use Rattle.tfs_laws.specs.Writes.{Put, put, Files, effect, step, run, covers, lastOf, last-write, rest-kept, length-step, joined, step-join}
 use Rattle.tfs_laws.specs.Places.{filesOf, laid, view-kept}
 
 pub record Write : Type 0 where

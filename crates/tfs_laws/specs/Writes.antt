@@ -1,14 +1,14 @@
 -- Lists of writes on any volume whose files lie at known places.
-use mathlib.Core.Path.{_≡_, refl, sym, ap, _∙_, subst}
+use mathlib.Core.Path.{_≡_, refl, sym, ap, _∙_}
 use mathlib.Core.Logic.{_≢_}
-use Prim.Native.Nat.{ℕ, zero, suc, _+_, _-_, _*_, _/_, _%_, _≤_, _<_, min}
+use Prim.Native.Nat.{ℕ, zero, suc, _+_, _-_, _≤_, _<_}
 use mathlib.Core.List.{List, [], _∷_, _++_, append-nil}
-use mathlib.Core.Bool.{Bool, true, false, not, cond, _&&_}
+use mathlib.Core.Bool.{Bool, cond, _&&_}
 use native.Mathlib.Omega.{arith}
 use native.Mathlib.Nat.{lt-of-not-le, zero-sub, sub-zero, suc-sub-suc}
 use native.Mathlib.Decide.{decLe}
-use lib.ListN.{length, getD, take, drop, length-append, length-take}
-use lib.Seq.{getD-take, take-nil, take-all}
+use lib.ListN.{length, getD, take, length-take}
+use lib.Seq.{getD-take}
 use lib.Dec.{T, leb, ltb, eqb, eqb→eq, leb→le, ltb→lt, eqb-refl, le→leb, lt→ltb, T-not}
 use Rattle.lists.specs.Test.{by-test, cond-yes, cond-no, and-of, and-l, and-r}
 use Rattle.lists.specs.Store.{storeAt, length-store, store-other, store-at, store-join}

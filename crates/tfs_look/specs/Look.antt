@@ -1,25 +1,23 @@
 -- Each way through open, list and free bytes, on the directory and the map as parts of the image.
-use mathlib.Core.Path.{_≡_, refl, sym, ap, ap₂, _∙_, subst}
-use mathlib.Core.Bool.{Bool, true, false, not, cond}
+use mathlib.Core.Path.{_≡_, sym, ap, ap₂, _∙_}
+use mathlib.Core.Bool.{true, false}
 use Prim.Native.Nat.{ℕ, _+_, _-_, _*_, _≤_, _<_}
-use mathlib.Core.List.{List, [], _∷_, _++_}
+use mathlib.Core.List.{List, _++_}
 use native.Mathlib.Omega.{arith}
 use lib.ListN.{length, take}
 use lib.Seq.{take-at, take-all}
-use lib.Dec.{T, ltb}
 use borrow.Author.Tests.{lt-ltb, le-ltb}
 use Rattle.lists.specs.Name.{zeros, padTo}
-use Rattle.lists.specs.Test.{no-false}
 use Rattle.lists.specs.Part.{part}
-use Rattle.tfs_rules.specs.Layout.{slots, nameAllowed, blocks, block, slot, slotFree, slotInode, slotName, inodeSize}
-use Rattle.tfs_rules.specs.View.{View, view, free, inode, name, size, slotOf, freeBlocks}
+use Rattle.tfs_rules.specs.Layout.{nameAllowed, blocks, block, slot, slotFree, slotInode, slotName, inodeSize}
+use Rattle.tfs_rules.specs.View.{View, view, free, inode, name, size, freeBlocks}
 use Rattle.tfs_rules.specs.Check.{consistent, check}
 use Rattle.tfs_rules.specs.Consistent.{File}
-use Rattle.tfs_rules.specs.Requests.{Answer, value, refused, unused, file, openView, listView}
+use Rattle.tfs_rules.specs.Requests.{value, refused, unused, file, openView, listView}
 use Rattle.tfs_facts.specs.Views.{view-n}
-use Rattle.tfs_dir.specs.Find.{findName, slot-of}
+use Rattle.tfs_dir.specs.Find.{findName}
 use Rattle.tfs_map.specs.Free.{freeBelow, free-blocks}
-use Rattle.tfs_answers.specs.Ready.{dir-is, map-is, size-is, inode-in}
+use Rattle.tfs_answers.specs.Ready.{dir-is, found-in, map-is, size-is, inode-in}
 
 -- ---- open
 module _ (img nm : List ℕ) where
@@ -30,16 +28,13 @@ module _ (img nm : List ℕ) where
   unfolding openView
   open-unallowed e = rw e
 
-  found-in : slotOf 512 v nm ≡ findName (part 1024 512 img) nm
-  found-in = slot-of v nm ∙ ap (λ (d : List ℕ). findName d nm) (dir-is img)
-
   pub open-missing : (s : ℕ) → nameAllowed nm ≡ true → s ≡ findName (part 1024 512 img) nm → 25 ≤ s → refused 13 0 ≡ openView 512 (view 512 img) nm
   unfolding openView
-  open-missing s e at h = rw (e, found-in, ← at, le-ltb s 25 h)
+  open-missing s e at h = rw (e, found-in img nm, ← at, le-ltb s 25 h)
 
   pub open-found : (s i : ℕ) → nameAllowed nm ≡ true → s ≡ findName (part 1024 512 img) nm → s < 25 → i ≡ slotInode (slot (part 1024 512 img) s) → value i ≡ openView 512 (view 512 img) nm
   unfolding openView inode
-  open-found s i e at h ei = rw (e, found-in, ← at, lt-ltb s 25 h, dir-is, ← ei)
+  open-found s i e at h ei = rw (e, found-in img nm, ← at, lt-ltb s 25 h, dir-is, ← ei)
 
 -- ---- list
 module _ (img : List ℕ) (s : ℕ) where

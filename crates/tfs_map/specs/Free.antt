@@ -10,7 +10,7 @@ use lib.Seq.{drop-cons, length-take-le}
 use Rattle.lists.specs.Sum.{sum, count, count-le}
 use Rattle.tfs_rules.specs.Layout.{mapBit}
 use Rattle.tfs_rules.specs.View.{View, freeBlocks}
-use Rattle.tfs_rules.specs.Room.{free-below, FreeIn, free-member}
+use Rattle.tfs_rules.specs.Room.{free-below, free-member}
 use Rattle.tfs_rules.specs.Requests.{freeFrom}
 use Rattle.tfs_map.specs.Under.{Under, under-take}
 

@@ -1,12 +1,12 @@
 -- The TFS layout, over the block size B: 512 at the base.
 use mathlib.Core.Path.{_≡_}
-use mathlib.Core.Bool.{Bool, true, false, not, cond, _&&_, _||_}
-use Prim.Native.Nat.{ℕ, zero, suc, _+_, _-_, _*_, _/_, _%_, _≤_, min}
+use mathlib.Core.Bool.{Bool, _&&_}
+use Prim.Native.Nat.{ℕ, _+_, _-_, _*_, _/_, _%_, _≤_, min}
 use mathlib.Core.List.{List, [], _∷_, _++_}
-use lib.ListN.{length, getD, take, drop, set}
+use lib.ListN.{length, getD, drop, set}
 use lib.Dec.{leb, ltb, eqb}
 use Rattle.lists.specs.Test.{sameList, allZero}
-use Rattle.lists.specs.Name.{firstZero, upToZero, padTo, zeros}
+use Rattle.lists.specs.Name.{firstZero, upToZero, padTo}
 use Rattle.lists.specs.Word.{word, bytes4, words}
 use Rattle.lists.specs.Bits.{bitOf, withBit}
 use Rattle.lists.specs.Part.{part, withPart}

@@ -1,15 +1,15 @@
 -- The requests: for every input the answer, the image after and the buffer after.
-use mathlib.Core.Bool.{Bool, true, false, not, cond, _&&_, _||_}
-use Prim.Native.Nat.{ℕ, zero, suc, _+_, _-_, _*_, _/_, _%_, min}
+use mathlib.Core.Bool.{Bool, true, false, not, cond}
+use Prim.Native.Nat.{ℕ, zero, suc, _+_, _-_, _*_, min}
 use mathlib.Core.List.{List, [], _∷_, _++_}
 use lib.ListN.{length, getD, take, drop}
-use lib.Dec.{leb, ltb, eqb}
+use lib.Dec.{ltb}
 use Rattle.lists.specs.Name.{zeros, padTo}
 use Rattle.lists.specs.Table.{table}
 use Rattle.lists.specs.Word.{bytes4}
 use Rattle.lists.specs.Store.{storeAt}
 use Rattle.tfs_rules.specs.Layout.{slots, maxSize, need, setBlock, magic, mapBit, setBits, setSlot, entry, inodeBlock, labelAllowed, nameAllowed}
-use Rattle.tfs_rules.specs.View.{View, view, free, inode, name, size, number, slotOf, slotWith, freeSlot, place, freeBlocks}
+use Rattle.tfs_rules.specs.View.{View, view, free, inode, name, size, slotOf, slotWith, freeSlot, place, freeBlocks}
 use Rattle.tfs_rules.specs.Check.{Verdict, consistent, broken, tooShort, check, fileClaims}
 
 -- "An answer is either granted with its result or refused with a reason"

@@ -1,15 +1,15 @@
 -- What a volume says outside its content: a view.
 -- The check beyond rule 1 (the image's length), every answer after the check and the place of every byte are functions of it.
-use mathlib.Core.Bool.{Bool, true, false, not, cond, _&&_, _||_}
-use Prim.Native.Nat.{ℕ, zero, suc, _+_, _-_, _*_, _/_, _%_}
-use mathlib.Core.List.{List, [], _∷_, _++_}
+use mathlib.Core.Bool.{Bool, not, cond, _&&_}
+use Prim.Native.Nat.{ℕ, _+_, _*_, _/_, _%_}
+use mathlib.Core.List.{List, []}
 use mathlib.Core.Option.{Option, none, some}
-use lib.ListN.{length, getD}
-use lib.Dec.{leb, ltb, eqb}
+use lib.ListN.{getD}
+use lib.Dec.{ltb, eqb}
 use Rattle.lists.specs.Least.{least}
 use Rattle.lists.specs.Sum.{count}
 use Rattle.lists.specs.Table.{table}
-use Rattle.tfs_rules.specs.Layout.{slots, need, blocks, block, slot, slotInode, slotName, slotFree, slotUsed, inRange, sameName, inodeSize, inodeNumber, mapBit}
+use Rattle.tfs_rules.specs.Layout.{slots, blocks, block, slot, slotInode, slotName, slotFree, slotUsed, inRange, sameName, inodeSize, inodeNumber, mapBit}
 
 pub record View : Type 0 where
   -- N

@@ -10,7 +10,7 @@ use Rattle.lists.specs.Part.{part}
 use Rattle.lists.specs.Table.{table}
 use Rattle.lists.specs.Store.{storeAt}
 use Rattle.tfs_rules.specs.Layout.{need, block, inodeSize}
-use Rattle.tfs_rules.specs.View.{View, view, inode, size, slotWith, place}
+use Rattle.tfs_rules.specs.View.{view, inode, size, slotWith, place}
 use Rattle.tfs_rules.specs.Check.{consistent, check}
 use Rattle.tfs_rules.specs.Consistent.{File}
 use Rattle.tfs_rules.specs.Requests.{refused, value, counted, transferView, readBuffer, writeImage}
