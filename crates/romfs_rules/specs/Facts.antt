@@ -1,7 +1,7 @@
 -- What a sound header gives: its end, its next and its first header lie where the nesting has them.
 use Prim.Native.Nat.{ℕ, _+_, _%_, _≤_, _<_}
 use mathlib.Core.Path.{_≡_, refl}
-use mathlib.Core.Logic.{_≢_}
+use mathlib.Core.Logic.{_≢_, _⊎_, inl, inr}
 use mathlib.Core.Bool.{Bool, true, false, not, cond, _&&_, _||_}
 use mathlib.Core.List.{List}
 use native.Mathlib.Omega.{arith}
@@ -21,6 +21,10 @@ pub or-no-r : (a b : Bool) → (a || b) ≡ false → b ≡ false
 or-no-r true b e = absurd (let z : _≡_ {A = ℕ} 0 1 = cc in omega arith)
 or-no-r false b e = e
 
+pub or-yes : (a b : Bool) → (a || b) ≡ true → (a ≡ true) ⊎ (b ≡ true)
+or-yes true b e = inl refl
+or-yes false b e = inr e
+
 pub and-no : (a b : Bool) → (a && b) ≡ false → a ≡ true → b ≡ false
 and-no true b e t = e
 and-no false b e t = absurd (let z : _≡_ {A = ℕ} 0 1 = cc in omega arith)
@@ -35,6 +39,11 @@ and-yes-r false b e = absurd (let z : _≡_ {A = ℕ} 0 1 = cc in omega arith)
 
 pub both : (a b : Bool) → a ≡ true → b ≡ true → (a && b) ≡ true
 both a b e f = rw (e, f)
+
+pub either : (a b : Bool) → (a ≡ true) ⊎ (b ≡ true) → (a || b) ≡ true
+either true b h = refl
+either false b (inl e) = absurd (let z : _≡_ {A = ℕ} 0 1 = cc in omega arith)
+either false b (inr e) = e
 
 pub not-eqb : (a b : ℕ) → a ≢ b → not (eqb a b) ≡ true
 not-eqb a b h = rw (ne-eqb a b h)
