@@ -13,7 +13,7 @@ use Rattle.romfs_rules.specs.Rules as rules
 use Rattle.romfs_rules.specs.Rules.{Verdict, accepted, refused, short21, magic22, size23, sum24, name25}
 use Rattle.romfs_rules.specs.Reached.{Reached, root, along, inside, IsReached, Sound}
 use Rattle.romfs_rules.specs.Check.{andThen, visitList, visitEntry, visitAll, walk, volume, links, check, leads, towards, seek, isReached, badLink}
-use Rattle.romfs_rules.specs.Facts.{room, ends, next-from, next-to, own-to, first-to, depth-to, fault-sound, or-no-l, or-no-r, list-descends, list-first}
+use Rattle.romfs_rules.specs.Facts.{room, ends, next-from, next-to, own-to, first-to, depth-to, fault-sound, fault-number, or-no-l, or-no-r, list-descends, list-first}
 use Rattle.romfs_rules.specs.Visit.{list-refused, list-last, list-next, entry-refused, entry-leaf, entry-list, entry-test}
 use Rattle.romfs_rules.specs.Walked.{Volume, full-from, full-to, root-to, visit-none, visit-root, sound, reached-in, reached-room}
 use Rattle.romfs_rules.specs.Links.{linkFault}
@@ -64,6 +64,9 @@ sound-room s bound d p h = omega (arith, room s p, ends s p bound d h)
 -- ---- a step
 pub reads-of : (s : List ℕ) (bound left p : ℕ) {a b : Step} → a ≡ b → a ≡ stepOf s bound left p → Reads s bound left p b
 reads-of s bound left p {a} {b} e h = step-reads s bound left p b (sym e ∙ h)
+
+pub step-number : (s : List ℕ) (bound left p n : ℕ) → Reads s bound left p (step.Broken n) → (26 ≤ n) × (n ≤ 28)
+step-number s bound left p n r = fault-number s p bound (8 - left) n p r
 
 module _ (s : List ℕ) (bound left p : ℕ) (l : left ≤ 7) where
   pub step-broken : (n : ℕ) → Reads s bound left p (step.Broken n) → refused n p ≡ visitEntry s (rules.fault s) left bound p

@@ -12,7 +12,7 @@ ghost use Rattle.romfs_rules.specs.Links.{linkFault};
 ghost use Rattle.romfs_rules.specs.Walked.{Volume};
 ghost use Rattle.romfs_headers.specs.Known.{Whole};
 ghost use Rattle.romfs_check.specs.Known.{Walked, Lies};
-ghost use Rattle.romfs_check.specs.Told.{told};
+ghost use Rattle.romfs_check.specs.Told.{told, CheckFits};
 use romfs_headers::Step;
 
 pub enum Fault {
@@ -59,7 +59,7 @@ fn summed(full: usize) -> usize
 }
 
 fn check_volume(image: &[u8]) -> CheckAnswer
-    ensures { λ r. ⌜ told r ≡ volume (now (image .entry)) ⌝ }
+    ensures { λ r. ⌜ (told r ≡ volume (now (image .entry))) × CheckFits r ⌝ }
 {
     if image.len() < 32 {
         return CheckAnswer::Refused(Fault::Volume(21));
@@ -85,7 +85,7 @@ fn check_volume(image: &[u8]) -> CheckAnswer
 // A list visits its entries, from its first header on.
 fn walk_list(image: &[u8], full: usize, at: usize, bound: usize, left: usize) -> CheckAnswer
     requires { ⌜ Whole (now image) full × (at < bound) × (bound ≤ full) × (left ≤ 7) ⌝ }
-    ensures { λ r. ⌜ told r ≡ visitList (now (image .entry)) (visitEntry (now (image .entry)) (fault (now (image .entry))) left bound) (bound - at) at ⌝ }
+    ensures { λ r. ⌜ (told r ≡ visitList (now (image .entry)) (visitEntry (now (image .entry)) (fault (now (image .entry))) left bound) (bound - at) at) × CheckFits r ⌝ }
 {
     let mut p = at;
     loop {
@@ -107,7 +107,7 @@ fn walk_list(image: &[u8], full: usize, at: usize, bound: usize, left: usize) ->
 // An entry, then its list.
 fn walk_entry(image: &[u8], full: usize, p: usize, bound: usize, left: usize) -> CheckAnswer
     requires { ⌜ Whole (now image) full × (p < bound) × (bound ≤ full) × (left ≤ 7) ⌝ }
-    ensures { λ r. ⌜ told r ≡ visitEntry (now (image .entry)) (fault (now (image .entry))) left bound p ⌝ }
+    ensures { λ r. ⌜ (told r ≡ visitEntry (now (image .entry)) (fault (now (image .entry))) left bound p) × CheckFits r ⌝ }
 {
     match romfs_headers::read_entry(image, full, bound, left, p) {
         Step::Broken(n) => CheckAnswer::Refused(Fault::Header(n, p as u32)),
@@ -118,7 +118,7 @@ fn walk_entry(image: &[u8], full: usize, p: usize, bound: usize, left: usize) ->
 
 fn check_walk(image: &[u8], full: usize) -> CheckAnswer
     requires { ⌜ Whole (now image) full × Volume (now image) ⌝ }
-    ensures { λ r. ⌜ told r ≡ walk (now (image .entry)) ⌝ }
+    ensures { λ r. ⌜ (told r ≡ walk (now (image .entry))) × CheckFits r ⌝ }
 {
     let first = romfs_headers::first_root(image, full);
     if first == full {
@@ -231,7 +231,7 @@ fn below_entry(image: &[u8], full: usize, bound: usize, p: usize) -> Below
 // The walk once more, for the links.
 fn links_list(image: &[u8], full: usize, at: usize, bound: usize, left: usize) -> CheckAnswer
     requires { ⌜ Walked (now image) full × (left ≤ 7) × Reached (now image) at bound (8 - left) ⌝ }
-    ensures { λ r. ⌜ told r ≡ visitList (now (image .entry)) (visitEntry (now (image .entry)) (linkFault (now (image .entry))) left bound) (bound - at) at ⌝ }
+    ensures { λ r. ⌜ (told r ≡ visitList (now (image .entry)) (visitEntry (now (image .entry)) (linkFault (now (image .entry))) left bound) (bound - at) at) × CheckFits r ⌝ }
 {
     let mut p = at;
     loop {
@@ -252,7 +252,7 @@ fn links_list(image: &[u8], full: usize, at: usize, bound: usize, left: usize) -
 
 fn links_entry(image: &[u8], full: usize, p: usize, bound: usize, left: usize) -> CheckAnswer
     requires { ⌜ Walked (now image) full × (left ≤ 7) × Reached (now image) p bound (8 - left) ⌝ }
-    ensures { λ r. ⌜ told r ≡ visitEntry (now (image .entry)) (linkFault (now (image .entry))) left bound p ⌝ }
+    ensures { λ r. ⌜ (told r ≡ visitEntry (now (image .entry)) (linkFault (now (image .entry))) left bound p) × CheckFits r ⌝ }
 {
     if bad_link(image, full, p) {
         return CheckAnswer::Refused(Fault::Header(29, p as u32));
@@ -265,7 +265,7 @@ fn links_entry(image: &[u8], full: usize, p: usize, bound: usize, left: usize) -
 
 fn check_links(image: &[u8], full: usize) -> CheckAnswer
     requires { ⌜ Walked (now image) full ⌝ }
-    ensures { λ r. ⌜ told r ≡ links (now (image .entry)) ⌝ }
+    ensures { λ r. ⌜ (told r ≡ links (now (image .entry))) × CheckFits r ⌝ }
 {
     let first = romfs_headers::first_root(image, full);
     if first == full {
@@ -279,7 +279,7 @@ fn check_links(image: &[u8], full: usize) -> CheckAnswer
 // Rules 26 to 29, of an image whose volume header is right.
 fn check_headers(image: &[u8]) -> CheckAnswer
     requires { ⌜ Volume (now image) ⌝ }
-    ensures { λ r. ⌜ told r ≡ andThen (walk (now (image .entry))) (links (now (image .entry))) ⌝ }
+    ensures { λ r. ⌜ (told r ≡ andThen (walk (now (image .entry))) (links (now (image .entry)))) × CheckFits r ⌝ }
 {
     let full = romfs_headers::full_size(image);
     match check_walk(image, full) {
@@ -289,7 +289,7 @@ fn check_headers(image: &[u8]) -> CheckAnswer
 }
 
 pub fn check(image: &[u8]) -> CheckAnswer
-    ensures { λ r. ⌜ told r ≡ rules.check (now (image .entry)) ⌝ }
+    ensures { λ r. ⌜ (told r ≡ rules.check (now (image .entry))) × CheckFits r ⌝ }
 {
     match check_volume(image) {
         CheckAnswer::Refused(f) => CheckAnswer::Refused(f),

@@ -173,3 +173,13 @@ place-by p n q false false false e = absurd (let z : _≡_ {A = ℕ} 0 1 = cc in
 pub fault-place : (s : List ℕ) (p bound depth n q : ℕ) → fault s bound depth p ≡ refused n q → q ≡ p
 unfolding fault
 fault-place s p bound depth n q e = place-by p n q (badHeader s bound p) (badNesting s bound p) (tooDeep s depth p) e
+
+number-by : (p n q : ℕ) (a b c : Bool) → cond a (refused 26 p) (cond b (refused 27 p) (cond c (refused 28 p) accepted)) ≡ refused n q → (26 ≤ n) × (n ≤ 28)
+number-by p n q true b c e = let f : n ≡ 26 = cc in omega arith
+number-by p n q false true c e = let f : n ≡ 27 = cc in omega arith
+number-by p n q false false true e = let f : n ≡ 28 = cc in omega arith
+number-by p n q false false false e = absurd (let z : _≡_ {A = ℕ} 0 1 = cc in omega arith)
+
+pub fault-number : (s : List ℕ) (p bound depth n q : ℕ) → fault s bound depth p ≡ refused n q → (26 ≤ n) × (n ≤ 28)
+unfolding fault
+fault-number s p bound depth n q e = number-by p n q (badHeader s bound p) (badNesting s bound p) (tooDeep s depth p) e

@@ -1,3 +1,4 @@
+use Rattle.romfs_check.specs.Facts.{fault-fits}
 use Prim.Native.Nat.{ℕ, _+_, _-_, _<_}
 use borrow.Author.Needs.{needs}
 use mathlib.Core.Path.{sym, ap, _∙_}
@@ -55,7 +56,7 @@ links-entry-cast-t9 : (t : ℕ) → links-entry-lts.Need-cast-t9 (E t) (links-en
 links-entry-cast-t9 t c = let k = c .before .before .before .pre .1 in record { fits = omega (arith, laws.here-room _ _ (k .0) _ _ _ (k .1) (k .2), k .0 .whole .small) }
 
 links-entry-returns : (t : ℕ) → links-entry-lts.Need-returns (E t) (links-entry-at t) links-entry.Post
-links-entry-returns t c = let k = c .before .before .before .pre .1 in laws.link-broken _ _ (k .0) _ _ _ (k .1) (k .2) (sym (c .before .bad-link .ensures) ∙ c .if1 .taken)
+links-entry-returns t c = let k = c .before .before .before .pre .1 in (laws.link-broken _ _ (k .0) _ _ _ (k .1) (k .2) (sym (c .before .bad-link .ensures) ∙ c .if1 .taken), omega arith)
 
 links-entry-below-entry-requires : (t : ℕ) → links-entry-lts.Need-below-entry-requires (E t) (links-entry-at t) links-entry.Post
 links-entry-below-entry-requires t c κs = let k = c .before .before .before .pre .1 in (k .0 .whole, laws.here-room _ _ (k .0) _ _ _ (k .1) (k .2))
@@ -71,10 +72,10 @@ links-entry-links-list-requires t c κs =
     (search needs, (k .0, search needs, laws.list-reached _ _ (k .0) _ _ _ (k .1) (k .2) _ _ lies))
 
 links-entry-returns-2 : (t : ℕ) → links-entry-lts.Need-returns-2 (E t) (links-entry-at t) links-entry.Post
-links-entry-returns-2 t c = let k = c .before .before .before .before .before .before .pre .1 in laws.link-leaf _ _ (k .0) _ _ _ (k .1) (k .2) (sym (c .before .before .before .before .bad-link .ensures) ∙ c .before .before .before .if1 .left) (laws.lies-of _ _ _ (c .enum-told .given .1) (c .before .before .below-entry .ensures))
+links-entry-returns-2 t c = let k = c .before .before .before .before .before .before .pre .1 in (laws.link-leaf _ _ (k .0) _ _ _ (k .1) (k .2) (sym (c .before .before .before .before .bad-link .ensures) ∙ c .before .before .before .if1 .left) (laws.lies-of _ _ _ (c .enum-told .given .1) (c .before .before .below-entry .ensures)), tt)
 
 links-entry-returns-3 : (t : ℕ) → links-entry-lts.Need-returns-3 (E t) (links-entry-at t) links-entry.Post
-links-entry-returns-3 t c = let k = c .before .before .before .before .before .before .before .before .pre .1 in c .links-list .ensures ∙ laws.link-list _ _ (k .0) _ _ _ (k .1) (k .2) _ _ (laws.lies-of _ _ _ (c .before .before .first .given .1) (c .before .before .before .before .below-entry .ensures)) (sym (c .before .before .before .before .before .before .bad-link .ensures) ∙ c .before .before .before .before .before .if1 .left)
+links-entry-returns-3 t c = let k = c .before .before .before .before .before .before .before .before .pre .1 in (c .links-list .ensures .0 ∙ laws.link-list _ _ (k .0) _ _ _ (k .1) (k .2) _ _ (laws.lies-of _ _ _ (c .before .before .first .given .1) (c .before .before .before .before .below-entry .ensures)) (sym (c .before .before .before .before .before .before .bad-link .ensures) ∙ c .before .before .before .before .before .if1 .left), c .links-list .ensures .1)
 
 abbrev links-list-Inv-loop : links-list-lts.InvT-loop
 links-list-Inv-loop image full at bound left p₀ p = Reached image p bound (8 - left) × laws.Rest image (linkFault image) left bound at p
@@ -86,7 +87,7 @@ links-list-returns : (t : ℕ) → links-list-lts.Need-returns (L t) (links-list
 links-list-returns t c =
     let k = c .before .before .before .before .before .before .pre .1 in
     let l = c .before .before .before .before .loop in
-    laws.rest-fault _ _ _ _ _ _ (l .inv .1) (laws.here-in _ _ (k .0) _ _ _ (k .1) (l .inv .0)) (c .before .f .given .0 .0) (ap told (sym (c .before .f .given .1)) ∙ c .before .before .before .links-entry .ensures)
+    (laws.rest-fault _ _ _ _ _ _ (l .inv .1) (laws.here-in _ _ (k .0) _ _ _ (k .1) (l .inv .0)) (c .before .f .given .0 .0) (ap told (sym (c .before .f .given .1)) ∙ c .before .before .before .links-entry .ensures .0), fault-fits _ _ (c .before .f .given .1) (c .before .before .before .links-entry .ensures .1))
 
 links-list-next-of-requires : (t : ℕ) → links-list-lts.Need-next-of-requires (L t) (links-list-at t) links-list.Post links-list-Inv-loop links-list-μ-loop
 links-list-next-of-requires t c κs =
@@ -98,7 +99,7 @@ links-list-returns-2 : (t : ℕ) → links-list-lts.Need-returns-2 (L t) (links-
 links-list-returns-2 t c =
     let k = c .before .before .before .before .before .before .before .pre .1 in
     let l = c .before .before .before .before .before .loop in
-    laws.rest-last _ _ _ _ _ _ (l .inv .1) (laws.here-in _ _ (k .0) _ _ _ (k .1) (l .inv .0)) (ap told (sym (c .before .before .enum-told .given .1)) ∙ c .before .before .before .before .links-entry .ensures) (sym (c .before .next-of .ensures .0) ∙ c .if1 .taken)
+    (laws.rest-last _ _ _ _ _ _ (l .inv .1) (laws.here-in _ _ (k .0) _ _ _ (k .1) (l .inv .0)) (ap told (sym (c .before .before .enum-told .given .1)) ∙ c .before .before .before .before .links-entry .ensures .0) (sym (c .before .next-of .ensures .0) ∙ c .if1 .taken), tt)
 
 links-list-loop-less : (t : ℕ) → links-list-lts.Need-loop-less (L t) (links-list-at t) links-list.Post links-list-Inv-loop links-list-μ-loop
 links-list-loop-less t c =
@@ -114,7 +115,7 @@ links-list-loop-again t c =
     let e = c .before .next-of .ensures .0 in
     let n = laws.here-next _ _ (k .0) _ _ _ (k .1) (l .inv .0) _ e (c .if1 .left) in (
       laws.next-reached _ _ (k .0) _ _ _ (k .1) (l .inv .0) _ e (c .if1 .left),
-      laws.rest-next _ _ _ _ _ _ (l .inv .1) (laws.here-in _ _ (k .0) _ _ _ (k .1) (l .inv .0)) (ap told (sym (c .before .before .enum-told .given .1)) ∙ c .before .before .before .before .links-entry .ensures) _ e (c .if1 .left) (n .0),
+      laws.rest-next _ _ _ _ _ _ (l .inv .1) (laws.here-in _ _ (k .0) _ _ _ (k .1) (l .inv .0)) (ap told (sym (c .before .before .enum-told .given .1)) ∙ c .before .before .before .before .links-entry .ensures .0) _ e (c .if1 .left) (n .0),
     )
 
 pub +links-entry+links-list-spec : {M : Type 1} → statement M

@@ -1,4 +1,4 @@
-use Rattle.romfs_check.specs.Facts.{sound-next}
+use Rattle.romfs_check.specs.Facts.{sound-next, fault-fits}
 use Prim.Native.Nat.{ℕ, _+_, _-_, _<_}
 use borrow.Author.Needs.{needs}
 use mathlib.Core.Path.{sym, ap, _∙_}
@@ -54,13 +54,15 @@ walk-entry-walk-list-requires t c κs =
     (search needs, (search needs, search needs, search needs, search needs))
 
 walk-entry-returns : (t : ℕ) → walk-entry-lts.Need-returns (E t) (walk-entry-at t) walk-entry.Post
-walk-entry-returns t c = laws.step-broken _ _ _ _ (c .before .before .before .before .before .pre .1 .3) _ (laws.reads-of _ _ _ _ (c .before .n .given .1) (c .before .before .before .read-entry .ensures))
+walk-entry-returns t c =
+    let r = laws.reads-of _ _ _ _ (c .before .n .given .1) (c .before .before .before .read-entry .ensures) in
+    (laws.step-broken _ _ _ _ (c .before .before .before .before .before .pre .1 .3) _ r, omega (arith, laws.step-number _ _ _ _ _ r))
 
 walk-entry-returns-2 : (t : ℕ) → walk-entry-lts.Need-returns-2 (E t) (walk-entry-at t) walk-entry.Post
-walk-entry-returns-2 t c = laws.step-leaf _ _ _ _ (c .before .before .before .before .pre .1 .3) (laws.reads-of _ _ _ _ (c .enum-told .given .1) (c .before .before .read-entry .ensures))
+walk-entry-returns-2 t c = (laws.step-leaf _ _ _ _ (c .before .before .before .before .pre .1 .3) (laws.reads-of _ _ _ _ (c .enum-told .given .1) (c .before .before .read-entry .ensures)), tt)
 
 walk-entry-returns-3 : (t : ℕ) → walk-entry-lts.Need-returns-3 (E t) (walk-entry-at t) walk-entry.Post
-walk-entry-returns-3 t c = c .walk-list .ensures ∙ laws.step-list _ _ _ _ (c .before .before .before .before .before .before .pre .1 .3) _ _ (laws.reads-of _ _ _ _ (c .before .before .first .given .1) (c .before .before .before .before .read-entry .ensures))
+walk-entry-returns-3 t c = (c .walk-list .ensures .0 ∙ laws.step-list _ _ _ _ (c .before .before .before .before .before .before .pre .1 .3) _ _ (laws.reads-of _ _ _ _ (c .before .before .first .given .1) (c .before .before .before .before .read-entry .ensures)), c .walk-list .ensures .1)
 
 abbrev walk-list-Inv-loop : walk-list-lts.InvT-loop
 walk-list-Inv-loop image full at bound left p₀ p = (p < bound) × laws.Rest image (fault image) left bound at p
@@ -69,24 +71,24 @@ abbrev walk-list-μ-loop : walk-list-lts.MeasureT-loop
 walk-list-μ-loop image full at bound left p₀ p = bound - p
 
 walk-list-returns : (t : ℕ) → walk-list-lts.Need-returns (L t) (walk-list-at t) walk-list.Post walk-list-Inv-loop walk-list-μ-loop
-walk-list-returns t c = let l = c .before .before .before .before .loop in laws.rest-fault _ _ _ _ _ _ (l .inv .1) (l .inv .0) (c .before .f .given .0 .0) (ap told (sym (c .before .f .given .1)) ∙ c .before .before .before .walk-entry .ensures)
+walk-list-returns t c = let l = c .before .before .before .before .loop in (laws.rest-fault _ _ _ _ _ _ (l .inv .1) (l .inv .0) (c .before .f .given .0 .0) (ap told (sym (c .before .f .given .1)) ∙ c .before .before .before .walk-entry .ensures .0), fault-fits _ _ (c .before .f .given .1) (c .before .before .before .walk-entry .ensures .1))
 
 walk-list-next-of-requires : (t : ℕ) → walk-list-lts.Need-next-of-requires (L t) (walk-list-at t) walk-list.Post walk-list-Inv-loop walk-list-μ-loop
-walk-list-next-of-requires t c κs = let h = laws.walked-sound _ _ _ _ (c .before .before .before .before .before .pre .1 .3) (ap told (sym (c .enum-told .given .1)) ∙ c .before .before .walk-entry .ensures) in omega (arith, laws.sound-room _ _ _ _ h)
+walk-list-next-of-requires t c κs = let h = laws.walked-sound _ _ _ _ (c .before .before .before .before .before .pre .1 .3) (ap told (sym (c .enum-told .given .1)) ∙ c .before .before .walk-entry .ensures .0) in omega (arith, laws.sound-room _ _ _ _ h)
 
 walk-list-returns-2 : (t : ℕ) → walk-list-lts.Need-returns-2 (L t) (walk-list-at t) walk-list.Post walk-list-Inv-loop walk-list-μ-loop
-walk-list-returns-2 t c = let l = c .before .before .before .before .before .loop in laws.rest-last _ _ _ _ _ _ (l .inv .1) (l .inv .0) (ap told (sym (c .before .before .enum-told .given .1)) ∙ c .before .before .before .before .walk-entry .ensures) (sym (c .before .next-of .ensures .0) ∙ c .if1 .taken)
+walk-list-returns-2 t c = let l = c .before .before .before .before .before .loop in (laws.rest-last _ _ _ _ _ _ (l .inv .1) (l .inv .0) (ap told (sym (c .before .before .enum-told .given .1)) ∙ c .before .before .before .before .walk-entry .ensures .0) (sym (c .before .next-of .ensures .0) ∙ c .if1 .taken), tt)
 
 walk-list-loop-less : (t : ℕ) → walk-list-lts.Need-loop-less (L t) (walk-list-at t) walk-list.Post walk-list-Inv-loop walk-list-μ-loop
 walk-list-loop-less t c =
-    let h = laws.walked-sound _ _ _ _ (c .before .before .before .before .before .before .before .pre .1 .3) (ap told (sym (c .before .before .enum-told .given .1)) ∙ c .before .before .before .before .walk-entry .ensures) in
+    let h = laws.walked-sound _ _ _ _ (c .before .before .before .before .before .before .before .pre .1 .3) (ap told (sym (c .before .before .enum-told .given .1)) ∙ c .before .before .before .before .walk-entry .ensures .0) in
     let n = sound-next _ _ _ _ _ h (c .before .next-of .ensures .0) (c .if1 .left) in
     omega arith
 
 walk-list-loop-again : (t : ℕ) → walk-list-lts.Need-loop-again (L t) (walk-list-at t) walk-list.Post walk-list-Inv-loop walk-list-μ-loop
 walk-list-loop-again t c =
     let l = c .before .before .before .before .before .loop in
-    let e = ap told (sym (c .before .before .enum-told .given .1)) ∙ c .before .before .before .before .walk-entry .ensures in
+    let e = ap told (sym (c .before .before .enum-told .given .1)) ∙ c .before .before .before .before .walk-entry .ensures .0 in
     let h = laws.walked-sound _ _ _ _ (c .before .before .before .before .before .before .before .pre .1 .3) e in
     let n = sound-next _ _ _ _ _ h (c .before .next-of .ensures .0) (c .if1 .left) in
     (n .1, laws.rest-next _ _ _ _ _ _ (l .inv .1) (l .inv .0) e _ (c .before .next-of .ensures .0) (c .if1 .left) (n .0))

@@ -1,4 +1,4 @@
-use Rattle.romfs_check.specs.Facts.{length-of, whole-volume}
+use Rattle.romfs_check.specs.Facts.{length-of, whole-volume, fault-fits}
 use mathlib.Core.Path.{sym, ap, _∙_}
 use denote.Ref.{now}
 use Rattle.romfs_rules.specs.Check.{walk, links}
@@ -15,13 +15,13 @@ check-walk-requires : tie.Need-check-walk-requires
 check-walk-requires c κs = let v = c .before .before .pre in (whole-volume _ _ v (c .full-size .ensures .0) (c .full-size .ensures .1), v)
 
 check-links-requires : tie.Need-check-links-requires
-check-links-requires c κs = let v = c .before .before .before .before .before .pre in record { whole = whole-volume _ _ v (c .before .before .before .full-size .ensures .0) (c .before .before .before .full-size .ensures .1); volume = v; walked = sym (ap told (sym (c .enum-told .given .1)) ∙ c .before .before .check-walk .ensures) }
+check-links-requires c κs = let v = c .before .before .before .before .before .pre in record { whole = whole-volume _ _ v (c .before .before .before .full-size .ensures .0) (c .before .before .before .full-size .ensures .1); volume = v; walked = sym (ap told (sym (c .enum-told .given .1)) ∙ c .before .before .check-walk .ensures .0) }
 
 returns : tie.Need-returns
-returns c = let s = now (c .before .before .before .before .before .before .args .image) in laws.refused-on (c .before .f .given .0 .0) (walk s) (links s) (ap told (sym (c .before .f .given .1)) ∙ c .before .before .before .check-walk .ensures)
+returns c = let s = now (c .before .before .before .before .before .before .args .image) in (laws.refused-on (c .before .f .given .0 .0) (walk s) (links s) (ap told (sym (c .before .f .given .1)) ∙ c .before .before .before .check-walk .ensures .0), fault-fits _ _ (c .before .f .given .1) (c .before .before .before .check-walk .ensures .1))
 
 returns-2 : tie.Need-returns-2
-returns-2 c = let s = now (c .before .before .before .before .before .before .args .image) in laws.accepted-on (walk s) (links s) (told (c .check-links .result)) (ap told (sym (c .before .enum-told .given .1)) ∙ c .before .before .before .check-walk .ensures) (c .check-links .ensures)
+returns-2 c = let s = now (c .before .before .before .before .before .before .args .image) in (laws.accepted-on (walk s) (links s) (told (c .check-links .result)) (ap told (sym (c .before .enum-told .given .1)) ∙ c .before .before .before .check-walk .ensures .0) (c .check-links .ensures .0), c .check-links .ensures .1)
 
 pub check-headers-spec : {M : Type 1} → statement M
 check-headers-spec =

@@ -13,7 +13,7 @@ first-root-requires c κs = (c .before .pre .0, full-at-least _ _ (c .before .pr
 
 returns : tie.Need-returns
 unfolding walk
-returns c = laws.root-none _ (fault _) _ _ (c .before .first-root .ensures) (c .before .before .before .pre .0 .is) (c .if1 .taken)
+returns c = (laws.root-none _ (fault _) _ _ (c .before .first-root .ensures) (c .before .before .before .pre .0 .is) (c .if1 .taken), tt)
 
 walk-list-requires : tie.Need-walk-list-requires
 unfolding walk
@@ -21,7 +21,7 @@ walk-list-requires c κs = let l = laws.root-in-full _ _ _ (c .before .before .b
 
 returns-2 : tie.Need-returns-2
 unfolding walk
-returns-2 c = c .walk-list .ensures ∙ laws.root-some _ (fault _) _ _ (c .before .before .first-root .ensures) (c .before .before .before .before .pre .0 .is) (c .before .if1 .left)
+returns-2 c = (c .walk-list .ensures .0 ∙ laws.root-some _ (fault _) _ _ (c .before .before .first-root .ensures) (c .before .before .before .before .pre .0 .is) (c .before .if1 .left), c .walk-list .ensures .1)
 
 pub check-walk-spec : {M : Type 1} → statement M
 check-walk-spec = tie.close (tie.spec first-root-requires returns walk-list-requires returns-2)
