@@ -1,7 +1,8 @@
 // romfs: check, find, entry and content of a read-only image.
 ghost use mathlib.Core.Path.{_≡_};
 ghost use mathlib.Core.Bool.{true};
-ghost use Prim.Native.Nat.{_<_};
+ghost use Prim.Native.Nat.{_+_, _≤_, _<_};
+ghost use lib.ListN.{length};
 ghost use Rattle.lists.specs.Part.{part};
 ghost use Rattle.romfs_rules.specs.Layout.{contentAt};
 ghost use Rattle.romfs_rules.specs.Rules.{accepted};
@@ -194,12 +195,20 @@ pub fn content<'a>(image: &'a [u8], at: u32) -> &'a [u8]
     }
 }
 
+// Where the content of n bytes begins: at the padded name's end.
+pub fn content_start(image: &[u8], at: usize, n: usize) -> usize
+    requires { ⌜ Content (now image) at n ⌝ }
+    ensures { λ r. ⌜ (r ≡ contentAt (now (image .entry)) at) × (r + n ≤ length (now (image .entry))) × (r < 4294967296) ⌝ }
+{
+    let full = romfs_headers::full_size(image);
+    let l = romfs_headers::name_length(image, at + 16, full);
+    romfs_headers::after_name(at + 16, l)
+}
+
 fn content_part<'a>(image: &'a [u8], at: usize, n: usize) -> &'a [u8]
     requires { ⌜ Content (now image) at n ⌝ }
     ensures { λ r. ⌜ now r ≡ part (contentAt (now (image .entry)) at) n (now (image .entry)) ⌝ }
 {
-    let full = romfs_headers::full_size(image);
-    let l = romfs_headers::name_length(image, at + 16, full);
-    let start = romfs_headers::after_name(at + 16, l);
+    let start = content_start(image, at, n);
     &image[start..start + n]
 }

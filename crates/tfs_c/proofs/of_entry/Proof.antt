@@ -1,14 +1,10 @@
+-- `of_entry` meets its contract: each case of the answer told as numbers.
 use mathlib.Core.Path.{_≡_}
 use lib.ListN.{length}
 use borrow.Author.Needs.{needs}
 use Rattle.tfs_c.specs.Result.{told-free, told-refused, told-fault, told-file}
 use Rattle.tfs_c.proofs.of_entry.Statement.{statement}
 use Rattle.tfs_c.proofs.of_entry.Tie as tie
-use Rattle.tfs_c.proofs.of_entry.Reads as reads
-use Rattle.tfs_c.proofs.of_entry.Lts as lts
-use Rattle.tfs_c.proofs.of_fault.Reads as of-fault-reads
-use Rattle.tfs_c.proofs.of_file.Reads as of-file-reads
-use Rattle.tfs_c.proofs.of_none.Reads as of-none-reads
 
 -- src/lib.rt:172:24
 enum-told : tie.Need-enum-told

@@ -1,13 +1,10 @@
+-- `tfs_check` meets its contract: each case of the answer told as numbers.
 use borrow.Author.Needs.{needs}
 use mathlib.Core.Path.{ap, _∙_}
 use Rattle.tfs_rules.specs.Requests.{checked, done, checkAnswer}
 use Rattle.tfs_c.specs.Result.{tells-by, checked-is}
 use Rattle.tfs_c.proofs.tfs_check.Statement.{statement}
 use Rattle.tfs_c.proofs.tfs_check.Tie as tie
-use Rattle.tfs_c.proofs.tfs_check.Reads as reads
-use Rattle.tfs_c.proofs.tfs_check.Lts as lts
-use Rattle.tfs_c.proofs.of_checked.Reads as of-checked-reads
-use Rattle.tfs_check.proofs.check.Reads as check-reads
 
 -- src/lib.rt:77:16
 check-requires : tie.Need-check-requires

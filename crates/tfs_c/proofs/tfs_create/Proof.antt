@@ -1,11 +1,8 @@
+-- `tfs_create` meets its contract: each case of the answer told as numbers.
 use borrow.Author.Needs.{needs}
 use Rattle.tfs_c.specs.Result.{tells-by}
 use Rattle.tfs_c.proofs.tfs_create.Statement.{statement}
 use Rattle.tfs_c.proofs.tfs_create.Tie as tie
-use Rattle.tfs_c.proofs.tfs_create.Reads as reads
-use Rattle.tfs_c.proofs.tfs_create.Lts as lts
-use Rattle.tfs_c.proofs.of_answer.Reads as of-answer-reads
-use Rattle.tfs_change.proofs.create.Reads as create-reads
 
 -- src/lib.rt:93:15
 create-requires : tie.Need-create-requires

@@ -1,11 +1,8 @@
+-- `tfs_format` meets its contract: each case of the answer told as numbers.
 use borrow.Author.Needs.{needs}
 use Rattle.tfs_c.specs.Result.{tells-by}
 use Rattle.tfs_c.proofs.tfs_format.Statement.{statement}
 use Rattle.tfs_c.proofs.tfs_format.Tie as tie
-use Rattle.tfs_c.proofs.tfs_format.Reads as reads
-use Rattle.tfs_c.proofs.tfs_format.Lts as lts
-use Rattle.tfs_c.proofs.of_done.Reads as of-done-reads
-use Rattle.tfs_change.proofs.format.Reads as format-reads
 
 -- src/lib.rt:85:13
 format-requires : tie.Need-format-requires

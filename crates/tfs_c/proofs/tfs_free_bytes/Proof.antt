@@ -1,11 +1,8 @@
+-- `tfs_free_bytes` meets its contract: each case of the answer told as numbers.
 use borrow.Author.Needs.{needs}
 use Rattle.tfs_c.specs.Result.{tells-by}
 use Rattle.tfs_c.proofs.tfs_free_bytes.Statement.{statement}
 use Rattle.tfs_c.proofs.tfs_free_bytes.Tie as tie
-use Rattle.tfs_c.proofs.tfs_free_bytes.Reads as reads
-use Rattle.tfs_c.proofs.tfs_free_bytes.Lts as lts
-use Rattle.tfs_c.proofs.of_answer.Reads as of-answer-reads
-use Rattle.tfs_look.proofs.free_bytes.Reads as free-bytes-reads
 
 -- src/lib.rt:133:15
 free-bytes-requires : tie.Need-free-bytes-requires

@@ -1,12 +1,9 @@
+-- `tfs_list` meets its contract: each case of the answer told as numbers.
 use mathlib.Core.Path.{_∙_}
 use borrow.Author.Needs.{needs}
 use Rattle.tfs_c.specs.Result.{slot-by}
 use Rattle.tfs_c.proofs.tfs_list.Statement.{statement}
 use Rattle.tfs_c.proofs.tfs_list.Tie as tie
-use Rattle.tfs_c.proofs.tfs_list.Reads as reads
-use Rattle.tfs_c.proofs.tfs_list.Lts as lts
-use Rattle.tfs_c.proofs.of_entry.Reads as of-entry-reads
-use Rattle.tfs_look.proofs.list.Reads as list-reads
 
 -- src/lib.rt:187:9
 list-requires : tie.Need-list-requires

@@ -1,11 +1,8 @@
+-- `tfs_open` meets its contract: each case of the answer told as numbers.
 use borrow.Author.Needs.{needs}
 use Rattle.tfs_c.specs.Result.{tells-by}
 use Rattle.tfs_c.proofs.tfs_open.Statement.{statement}
 use Rattle.tfs_c.proofs.tfs_open.Tie as tie
-use Rattle.tfs_c.proofs.tfs_open.Reads as reads
-use Rattle.tfs_c.proofs.tfs_open.Lts as lts
-use Rattle.tfs_c.proofs.of_answer.Reads as of-answer-reads
-use Rattle.tfs_look.proofs.open.Reads as open-reads
 
 -- src/lib.rt:109:15
 open-requires : tie.Need-open-requires

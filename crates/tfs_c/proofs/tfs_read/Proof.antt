@@ -1,11 +1,8 @@
+-- `tfs_read` meets its contract: each case of the answer told as numbers.
 use borrow.Author.Needs.{needs}
 use Rattle.tfs_c.specs.Result.{tells-by}
 use Rattle.tfs_c.proofs.tfs_read.Statement.{statement}
 use Rattle.tfs_c.proofs.tfs_read.Tie as tie
-use Rattle.tfs_c.proofs.tfs_read.Reads as reads
-use Rattle.tfs_c.proofs.tfs_read.Lts as lts
-use Rattle.tfs_c.proofs.of_answer.Reads as of-answer-reads
-use Rattle.tfs_transfer.proofs.read.Reads as read-reads
 
 -- src/lib.rt:117:15
 read-requires : tie.Need-read-requires

@@ -1,11 +1,8 @@
+-- `tfs_remove` meets its contract: each case of the answer told as numbers.
 use borrow.Author.Needs.{needs}
 use Rattle.tfs_c.specs.Result.{tells-by}
 use Rattle.tfs_c.proofs.tfs_remove.Statement.{statement}
 use Rattle.tfs_c.proofs.tfs_remove.Tie as tie
-use Rattle.tfs_c.proofs.tfs_remove.Reads as reads
-use Rattle.tfs_c.proofs.tfs_remove.Lts as lts
-use Rattle.tfs_c.proofs.of_done.Reads as of-done-reads
-use Rattle.tfs_change.proofs.remove.Reads as remove-reads
 
 -- src/lib.rt:101:13
 remove-requires : tie.Need-remove-requires

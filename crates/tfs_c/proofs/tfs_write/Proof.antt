@@ -1,11 +1,8 @@
+-- `tfs_write` meets its contract: each case of the answer told as numbers.
 use borrow.Author.Needs.{needs}
 use Rattle.tfs_c.specs.Result.{tells-by}
 use Rattle.tfs_c.proofs.tfs_write.Statement.{statement}
 use Rattle.tfs_c.proofs.tfs_write.Tie as tie
-use Rattle.tfs_c.proofs.tfs_write.Reads as reads
-use Rattle.tfs_c.proofs.tfs_write.Lts as lts
-use Rattle.tfs_c.proofs.of_answer.Reads as of-answer-reads
-use Rattle.tfs_transfer.proofs.write.Reads as write-reads
 
 -- src/lib.rt:125:15
 write-requires : tie.Need-write-requires
