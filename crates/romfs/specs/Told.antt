@@ -1,5 +1,7 @@
 -- What the answers of the requests tell: number, place and values.
-use Prim.Native.Nat.{ℕ, _≤_}
+use Prim.Native.Nat.{ℕ, _+_, _≤_}
+use mathlib.Core.List.{List}
+use denote.Ref.{RefT}
 use mathlib.Core.Path.{_≡_}
 use Rattle.romfs_rules.specs.Answers.{Answer, granted, denied, Entry}
 use Rattle.romfs_check.specs.declared.Fault.{Fault}
@@ -47,3 +49,7 @@ abbrev pub ContentFits : ContentAnswer → Type 0
 ContentFits (contents.Length n) = Unit {0}
 ContentFits (contents.Refused n) = n ≡ 31
 ContentFits (contents.Inconsistent f) = FaultFits f
+
+-- ---- a part of the image, not a copy: in the image's memory, so many bytes after its first
+abbrev pub LiesAt : RefT (List ℕ) → RefT (List ℕ) → ℕ → Type 0
+LiesAt part image from = (part .ptr .0 ≡ image .ptr .0) × (part .ptr .1 ≡ from + image .ptr .1)

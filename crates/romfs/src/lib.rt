@@ -13,7 +13,7 @@ ghost use Rattle.romfs_rules.specs.Answers.{firstOf, isDirectory, matchFrom, fo
 ghost use Rattle.romfs_rules.specs.Given.{Content};
 ghost use Rattle.romfs_check.specs.Known.{Walked};
 ghost use Rattle.romfs_check.specs.Told.{told, CheckFits};
-ghost use Rattle.romfs.specs.Told.{toldFind, FindFits, toldEntry, EntryFits, toldContent, ContentFits};
+ghost use Rattle.romfs.specs.Told.{toldFind, FindFits, toldEntry, EntryFits, toldContent, ContentFits, LiesAt};
 use romfs_check::CheckAnswer;
 use romfs_check::Fault;
 
@@ -186,7 +186,7 @@ pub fn content_length(image: &[u8], at: u32) -> ContentAnswer
 
 // The content as that part of the image; an empty part where it is refused.
 pub fn content<'a>(image: &'a [u8], at: u32) -> &'a [u8]
-    ensures { λ r. ⌜ now r ≡ answers.content (now (image .entry)) at ⌝ }
+    ensures { λ r. ⌜ (now r ≡ answers.content (now (image .entry)) at) × LiesAt r (image .entry) (answers.contentStart (now (image .entry)) at) ⌝ }
 {
     match content_length(image, at) {
         ContentAnswer::Refused(_) => &image[0..0],
@@ -207,7 +207,7 @@ pub fn content_start(image: &[u8], at: usize, n: usize) -> usize
 
 fn content_part<'a>(image: &'a [u8], at: usize, n: usize) -> &'a [u8]
     requires { ⌜ Content (now image) at n ⌝ }
-    ensures { λ r. ⌜ now r ≡ part (contentAt (now (image .entry)) at) n (now (image .entry)) ⌝ }
+    ensures { λ r. ⌜ (now r ≡ part (contentAt (now (image .entry)) at) n (now (image .entry))) × LiesAt r (image .entry) (contentAt (now (image .entry)) at) ⌝ }
 {
     let start = content_start(image, at, n);
     &image[start..start + n]

@@ -2,7 +2,7 @@
 use Prim.Native.Nat.{ℕ}
 use mathlib.Core.Path.{_≡_, refl, sym, ap, subst, _∙_}
 use Rattle.romfs_rules.specs.Rules.{accepted, refused}
-use Rattle.romfs_rules.specs.Answers.{Answer, granted, denied, Entry, checked}
+use Rattle.romfs_rules.specs.Answers.{Answer, granted, denied, Entry, checked, startOf}
 use Rattle.romfs_check.specs.declared.Fault.{Fault}
 use Rattle.romfs_check.specs.declared.Fault.the-variants as fault
 use Rattle.romfs_check.specs.declared.CheckAnswer.{CheckAnswer}
@@ -44,13 +44,9 @@ TellsHeader r a =
     × (r .next ≡ fieldOf (λ e. e .next) a) × (r .namelen ≡ fieldOf (λ e. e .nameLength) a)
 
 -- ---- content: where it begins and how long it is, or 0 and 0
-abbrev pub offsetOf : ℕ → Answer ℕ → ℕ
-offsetOf start (granted x) = start
-offsetOf start (denied n p) = 0
-
 abbrev pub TellsPart : RomfsPart → ℕ → Answer ℕ → Type 0
 TellsPart r start a =
-    (r .refusal ≡ refusalOf a) × (r .place ≡ placeOf a) × (r .offset ≡ offsetOf start a) × (r .length ≡ valueOf a)
+    (r .refusal ≡ refusalOf a) × (r .place ≡ placeOf a) × (r .offset ≡ startOf start a) × (r .length ≡ valueOf a)
 
 -- ---- the check's own answer: nothing but the grant
 abbrev pub checkedAnswer : CheckAnswer → Answer ℕ

@@ -1,4 +1,6 @@
 -- The part of the image from there on.
+use mathlib.Core.Path.{refl, ap}
+use Prim.Native.Nat.{_+_}
 use borrow.Author.Needs.{needs}
 use Rattle.romfs.proofs.Answers as answers
 use Rattle.romfs.proofs.content_part.Statement.{statement}
@@ -26,7 +28,9 @@ part-result-end c = search needs
 
 -- src/lib.rt:208:1
 returns : tie.Need-returns
-returns c = answers.content-part _ _ _ _ (c .before .content-start .ensures .0)
+returns c =
+    let start = c .before .content-start .ensures .0 in
+    (answers.content-part _ _ _ _ start, (refl, ap (λ o. o + c .before .before .before .args .image .ptr .1) start))
 
 pub content-part-spec : {M : Type 1} → statement M
 content-part-spec =

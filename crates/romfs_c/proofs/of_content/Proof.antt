@@ -2,9 +2,10 @@
 use mathlib.Core.Path.{sym, ap, _∙_}
 use denote.Ref.{now}
 use Rattle.romfs_rules.specs.Layout.{contentAt}
+use Rattle.romfs_rules.specs.Answers.{startOf}
 use Rattle.romfs_rules.specs.Given.{content-in}
 use Rattle.romfs.specs.Told.{toldContent}
-use Rattle.romfs_c.specs.Result.{refusalOf, placeOf, offsetOf, valueOf, part-by, part-none}
+use Rattle.romfs_c.specs.Result.{refusalOf, placeOf, valueOf, part-by, part-none}
 use borrow.Author.Needs.{needs}
 use Rattle.romfs_c.proofs.of_content.Statement.{statement}
 use Rattle.romfs_c.proofs.of_content.Tie as tie
@@ -56,7 +57,7 @@ returns-3 c =
     let e = sym (c .before .before .a3 .given .1) in (
       ap (λ x. refusalOf (toldContent x)) e,
       ap (λ x. placeOf (toldContent x)) e,
-      c .content-start .ensures .0 ∙ ap (λ x. offsetOf (contentAt (now (a .image)) (a .at)) (toldContent x)) e,
+      c .content-start .ensures .0 ∙ ap (λ x. startOf (contentAt (now (a .image)) (a .at)) (toldContent x)) e,
       ap (λ x. valueOf (toldContent x)) e,
     )
 
