@@ -9,7 +9,7 @@ use mathlib.Core.List.{List}
 use native.Mathlib.Omega.{arith}
 use lib.ListN.{length, getD}
 use lib.Dec.{T}
-use Rattle.tfs_rules.specs.Layout.{blocks, labelAllowed}
+use Rattle.tfs_rules.specs.Layout.{blocks, labelAllowed, nameAllowed}
 use Rattle.tfs_rules.specs.View.{view, freeBlocks, contents}
 use Rattle.tfs_rules.specs.Check.{Verdict, consistent, broken, check}
 use Rattle.tfs_rules.specs.Consistent.{Consistent, FirstBroken}
@@ -23,6 +23,7 @@ use Rattle.tfs_laws.specs.Reads.{ReadLaw, read-law, read-refused}
 use Rattle.tfs_laws.specs.Handles.{Means, HandleRefused, open-means, open-number, removed-refused, created-handle, KeptHandle, kept-handle}
 use Rattle.tfs_laws.specs.Kept.{KeptLaw, create-kept, remove-kept, write-kept}
 use Rattle.tfs_laws.specs.Tail.{TailKept, tail-kept, SameVolume, TailLaw, tail-unread}
+use Rattle.tfs_laws.specs.Grants.{LabelRule, NameRule, label-allowed, name-allowed, FormatRule, format-rule, GrantLaw, grants, CreateGranted, create-grants}
 use Rattle.tfs_laws.specs.Ignored.{SameRead, IgnoredLaw, ignored}
 use Rattle.tfs_laws.specs.Laws.{size-512}
 
@@ -106,6 +107,27 @@ check-law img =
       refuses = λ num p.
           ((λ e. says num p .0 (told-broken (check 512 img) num p .0 e)), λ first. told-broken (check 512 img) num p .1 (says num p .1 first));
     }
+
+-- "On a consistent volume every request is granted exactly when the written .. rules grant it":
+-- each answer of each request is given exactly in the case that its table names; check has CheckLaw, free bytes TotalLaw
+pub grant-law : (img : List ℕ) → Consistent 512 img → GrantLaw 512 img
+grant-law img ok = grants 512 size-512 img ok
+
+-- format's table, of any image
+pub format-answers : (img label : List ℕ) (a : Answer) → (format 512 img label .answer ≡ a) ↔ FormatRule 512 img label a
+format-answers img label = format-rule 512 img label
+
+-- create is granted exactly when all its tests are passed
+pub create-law : (img : List ℕ) → Consistent 512 img → (nm : List ℕ) (z : ℕ) → T (granted (create 512 img nm z .answer)) ↔ CreateGranted 512 (view 512 img) nm z
+create-law img ok nm z = create-grants 512 size-512 img ok nm z
+
+-- which names requests take, and which format takes as the volume's
+pub record NameLaw (nm : List ℕ) : Type 0 where
+  pub name : T (nameAllowed nm) ↔ NameRule nm
+  pub label : T (labelAllowed nm) ↔ LabelRule nm
+
+pub name-law : (nm : List ℕ) → NameLaw nm
+name-law nm = record { name = name-allowed nm; label = label-allowed nm }
 
 -- "The volume stays consistent", and a granted request changes what stands under one name:
 -- every other name keeps its size and bytes

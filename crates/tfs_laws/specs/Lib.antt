@@ -24,4 +24,5 @@ pub mod Reads
 pub mod Kept
 pub mod Tail
 pub mod Ignored
+pub mod Grants
 pub mod Demands
