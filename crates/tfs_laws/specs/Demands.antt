@@ -23,7 +23,8 @@ use Rattle.tfs_laws.specs.Reads.{ReadLaw, read-law, read-refused}
 use Rattle.tfs_laws.specs.Handles.{Means, HandleRefused, open-means, open-number, removed-refused, created-handle, KeptHandle, kept-handle}
 use Rattle.tfs_laws.specs.Kept.{KeptLaw, create-kept, remove-kept, write-kept}
 use Rattle.tfs_laws.specs.Tail.{TailKept, tail-kept, SameVolume, TailLaw, tail-unread}
-use Rattle.tfs_laws.specs.Grants.{LabelRule, NameRule, label-allowed, name-allowed, FormatRule, format-rule, GrantLaw, grants, CreateGranted, create-grants}
+use Rattle.tfs_laws.specs.Grants.{Stands, LabelRule, NameRule, label-allowed, name-allowed, FormatRule, format-rule, GrantLaw, grants, CreateGranted, create-grants}
+use Rattle.tfs_laws.specs.Touches.{RemoveTouch, remove-touches, CreateTouch, create-touches}
 use Rattle.tfs_laws.specs.Ignored.{SameRead, IgnoredLaw, ignored}
 use Rattle.tfs_laws.specs.Laws.{size-512}
 
@@ -137,6 +138,15 @@ pub record EffectLaw (img : List ℕ) : Type 0 where
 
 pub effect-law : (img : List ℕ) → Consistent 512 img → EffectLaw img
 effect-law img ok = record { stays = stays-consistent 512 size-512 img ok; changes = changed 512 size-512 img ok }
+
+-- "with the effect they give and no other": what create and remove set in the image, and that every other byte and bit stays;
+-- of write see law-writes in Laws.antt
+pub record TouchLaw (img : List ℕ) : Type 0 where
+  pub created : (nm : List ℕ) (z h : ℕ) → create 512 img nm z .answer ≡ value h → (s : ℕ) × (cs : List ℕ) × CreateTouch 512 img (create 512 img nm z .image) nm z h s cs
+  pub removed : (nm : List ℕ) (s : ℕ) → Stands 512 (view 512 img) nm s → T (granted (remove 512 img nm .answer)) → RemoveTouch 512 img (remove 512 img nm .image) s
+
+pub touch-law : (img : List ℕ) → Consistent 512 img → TouchLaw img
+touch-law img ok = record { created = create-touches 512 size-512 img ok; removed = remove-touches 512 size-512 img ok }
 
 -- format grants every image of 1,536 bytes or more and every allowed name,
 -- and leaves a consistent volume in which no name stands; every byte from 1,536 on and the length are as before

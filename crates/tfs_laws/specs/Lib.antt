@@ -25,4 +25,5 @@ pub mod Kept
 pub mod Tail
 pub mod Ignored
 pub mod Grants
+pub mod Touches
 pub mod Demands
