@@ -4,12 +4,14 @@ use mathlib.Core.Path.{_≡_, refl, sym, ap, ap₂, _∙_, subst}
 use mathlib.Core.Logic.{_↔_}
 use mathlib.Core.Bool.{not}
 use mathlib.Core.Option.{none}
-use Prim.Native.Nat.{ℕ, _+_, _*_, _≤_}
-use mathlib.Core.List.{List}
+use Prim.Native.Nat.{ℕ, _+_, _-_, _*_, _≤_}
+use mathlib.Core.List.{List, [], _∷_, _++_}
 use native.Mathlib.Omega.{arith}
 use lib.ListN.{length, getD}
 use lib.Dec.{T}
-use Rattle.tfs_rules.specs.Layout.{blocks, labelAllowed, nameAllowed}
+use Rattle.lists.specs.Name.{zeros}
+use Rattle.lists.specs.Bits.{withBit}
+use Rattle.tfs_rules.specs.Layout.{blocks, block, setBit, setBits, labelAllowed, nameAllowed}
 use Rattle.tfs_rules.specs.View.{view, freeBlocks, contents}
 use Rattle.tfs_rules.specs.Check.{Verdict, consistent, broken, check}
 use Rattle.tfs_rules.specs.Consistent.{Consistent, FirstBroken}
@@ -18,7 +20,7 @@ use Rattle.tfs_rules.specs.Requests.{Answer, done, value, refused, granted, che
 use Rattle.tfs_rules.specs.Total.{inodeCount, contentCount, adds-up}
 use Rattle.tfs_laws.specs.Views.{view-n}
 use Rattle.tfs_laws.specs.Changes.{Change, creates, removes, writes, perform, refused-keeps, Changed, changed, stays-consistent}
-use Rattle.tfs_laws.specs.Formats.{format-refused, format-grants, format-consistent, format-empty, format-past, format-length}
+use Rattle.tfs_laws.specs.Formats.{format-refused, format-grants, format-consistent, format-empty, format-past, format-length, format-head, format-map, format-directory}
 use Rattle.tfs_laws.specs.Reads.{ReadLaw, read-law, read-refused}
 use Rattle.tfs_laws.specs.Handles.{Means, HandleRefused, open-means, open-number, removed-refused, created-handle, KeptHandle, kept-handle}
 use Rattle.tfs_laws.specs.Kept.{KeptLaw, create-kept, remove-kept, write-kept}
@@ -149,13 +151,22 @@ pub touch-law : (img : List ℕ) → Consistent 512 img → TouchLaw img
 touch-law img ok = record { created = create-touches 512 size-512 img ok; removed = remove-touches 512 size-512 img ok }
 
 -- format grants every image of 1,536 bytes or more and every allowed name,
--- and leaves a consistent volume in which no name stands; every byte from 1,536 on and the length are as before
+-- and leaves a consistent volume in which no name stands; every byte from 1,536 on and the length are as before.
+-- "Zeros all of blocks 0 to 2 ..; sets magic, name and map bits 0, 1, 2": the bytes of the three blocks
 pub record FormatLaw (img label : List ℕ) : Type 0 where
   pub answer : format 512 img label .answer ≡ done
   pub consistent : Consistent 512 (format 512 img label .image)
   pub empty : (nm : List ℕ) → contents 512 (format 512 img label .image) nm ≡ none
+  pub head : block 512 (format 512 img label .image) 0 ≡ 0 ∷ 0 ∷ 14 ∷ 161 ∷ (label ++ zeros (508 - length label))
+  pub map : block 512 (format 512 img label .image) 1 ≡ 0 ∷ 0 ∷ 0 ∷ 7 ∷ zeros 508
+  pub directory : block 512 (format 512 img label .image) 2 ≡ zeros 512
   pub past : (q : ℕ) → 1536 ≤ q → getD (format 512 img label .image) q 0 ≡ getD img q 0
   pub long : length (format 512 img label .image) ≡ length img
+
+-- bits 0, 1, 2 of the first word
+three-marked : setBits (zeros 512) 1 (0 ∷ 1 ∷ 2 ∷ []) ≡ 0 ∷ 0 ∷ 0 ∷ 7 ∷ zeros 508
+unfolding setBit withBit
+three-marked = refl
 
 pub format-law : (img label : List ℕ) → 1536 ≤ length img → T (labelAllowed label) → FormatLaw img label
 format-law img label h t =
@@ -165,6 +176,9 @@ format-law img label h t =
       answer = e;
       consistent = format-consistent size-512 img label g;
       empty = format-empty size-512 img label g;
+      head = format-head size-512 img label g;
+      map = format-map size-512 img label g ∙ three-marked;
+      directory = format-directory size-512 img label g;
       past = format-past size-512 img label;
       long = format-length size-512 img label;
     }
