@@ -4,14 +4,14 @@ use mathlib.Core.Path.{_≡_, refl, sym, ap, ap₂, _∙_, subst}
 use mathlib.Core.Logic.{_↔_}
 use mathlib.Core.Bool.{not}
 use mathlib.Core.Option.{none}
-use Prim.Native.Nat.{ℕ, _+_, _-_, _*_, _≤_}
+use Prim.Native.Nat.{ℕ, _+_, _-_, _*_, _/_, _≤_, _<_}
 use mathlib.Core.List.{List, [], _∷_, _++_}
 use native.Mathlib.Omega.{arith}
 use lib.ListN.{length, getD}
 use lib.Dec.{T}
 use Rattle.lists.specs.Name.{zeros}
 use Rattle.lists.specs.Bits.{withBit}
-use Rattle.tfs_rules.specs.Layout.{blocks, block, setBit, setBits, labelAllowed, nameAllowed}
+use Rattle.tfs_rules.specs.Layout.{slots, numbers, maxSize, need, blocks, block, setBit, setBits, labelAllowed, nameAllowed}
 use Rattle.tfs_rules.specs.View.{view, freeBlocks, contents}
 use Rattle.tfs_rules.specs.Check.{Verdict, consistent, broken, check}
 use Rattle.tfs_rules.specs.Consistent.{Consistent, FirstBroken}
@@ -29,6 +29,31 @@ use Rattle.tfs_laws.specs.Grants.{Stands, LabelRule, NameRule, label-all
 use Rattle.tfs_laws.specs.Touches.{RemoveTouch, remove-touches, CreateTouch, create-touches}
 use Rattle.tfs_laws.specs.Ignored.{SameRead, IgnoredLaw, ignored}
 use Rattle.tfs_laws.specs.Laws.{size-512}
+
+-- ---- the numbers of the layout
+-- "N = the smaller of 4096 and image length divided by 512, rounded down"; 25 slots; 127 block numbers; "Largest file 65,024 bytes"
+pub record NumberLaw (img : List ℕ) : Type 0 where
+  pub large : 2097152 ≤ length img → blocks 512 img ≡ 4096
+  pub small : length img ≤ 2097152 → blocks 512 img ≡ length img / 512
+  pub directory : slots 512 ≡ 25
+  pub inode : numbers 512 ≡ 127
+  pub file : maxSize 512 ≡ 65024
+  -- ⌈size/512⌉: enough blocks, and no block more
+  pub enough : (z : ℕ) → z ≤ need 512 z * 512
+  pub tight : (z : ℕ) → need 512 z * 512 < z + 512
+
+pub number-law : (img : List ℕ) → NumberLaw img
+unfolding blocks need
+number-law img =
+    record {
+      large = λ h. omega arith;
+      small = λ h. omega arith;
+      directory = refl;
+      inode = refl;
+      file = refl;
+      enough = λ z. omega arith;
+      tight = λ z. omega arith;
+    }
 
 -- ---- demand 1
 -- "Every request but format refuses a volume that breaks the rules, with the first fault and its place",
@@ -57,6 +82,22 @@ fault-law img num p first =
       on-list = λ s. rw e;
       on-free = rw e;
     }
+
+-- a volume that is not consistent has a first fault, and that is what each of them refuses it with
+pub record FaultyLaw (img : List ℕ) : Type 0 where
+  pub rule : ℕ
+  pub place : ℕ
+  pub first : FirstBroken 512 img rule place
+  pub refusals : FaultLaw img rule place
+
+pub faulty-law : (img : List ℕ) → (Consistent 512 img → ⊥) → FaultyLaw img
+faulty-law img bad = go (check 512 img) refl
+  where
+    go : (x : Verdict) → check 512 img ≡ x → FaultyLaw img
+    go consistent e = absurd (bad (check-means 512 size-512 img .0 e))
+    go (broken num p) e =
+        let first : FirstBroken 512 img num p = check-breaks 512 size-512 img num p .0 e in
+        record { rule = num; place = p; first = first; refusals = fault-law img num p first }
 
 -- "A refused request changes no byte of the image or of any buffer"
 pub record RefusalLaw (img : List ℕ) : Type 0 where
