@@ -12,7 +12,7 @@ use lib.Dec.{T}
 use Rattle.lists.specs.Name.{zeros}
 use Rattle.lists.specs.Bits.{withBit}
 use Rattle.tfs_rules.specs.Layout.{slots, numbers, maxSize, need, blocks, block, setBit, setBits, labelAllowed, nameAllowed}
-use Rattle.tfs_rules.specs.View.{view, freeBlocks, contents}
+use Rattle.tfs_rules.specs.View.{view, size, freeBlocks, contents}
 use Rattle.tfs_rules.specs.Check.{Verdict, consistent, broken, check}
 use Rattle.tfs_rules.specs.Consistent.{Consistent, FirstBroken}
 use Rattle.tfs_rules.specs.CheckMeans.{check-means, check-breaks}
@@ -27,6 +27,7 @@ use Rattle.tfs_laws.specs.Kept.{KeptLaw, create-kept, remove-kept, write
 use Rattle.tfs_laws.specs.Tail.{TailKept, tail-kept, SameVolume, TailLaw, tail-unread}
 use Rattle.tfs_laws.specs.Grants.{Stands, LabelRule, NameRule, label-allowed, name-allowed, FormatRule, format-rule, GrantLaw, grants, CreateGranted, create-grants}
 use Rattle.tfs_laws.specs.Touches.{RemoveTouch, remove-touches, CreateTouch, create-touches}
+use Rattle.tfs_laws.specs.Rooms.{removed-room, created-room, written-room}
 use Rattle.tfs_laws.specs.Ignored.{SameRead, IgnoredLaw, ignored}
 use Rattle.tfs_laws.specs.Laws.{size-512}
 
@@ -282,3 +283,13 @@ total-law img ok =
       bytes = ap (λ (x : Verdict). checked x (value (512 * freeBlocks (view 512 img)))) (check-means 512 size-512 img .1 ok);
       total = adds-up 512 size-512 img ok ∙ view-n 512 img;
     }
+
+-- "Room freed by remove counts for 12 at once"; create takes 1 + ⌈size/512⌉ blocks; write takes none
+pub record RoomLaw (img : List ℕ) : Type 0 where
+  pub removed : (nm : List ℕ) (s : ℕ) → Stands 512 (view 512 img) nm s → T (granted (remove 512 img nm .answer)) → freeBlocks (view 512 (remove 512 img nm .image)) ≡ freeBlocks (view 512 img) + (1 + need 512 (size (view 512 img) s))
+  pub created : (nm : List ℕ) (z : ℕ) → T (granted (create 512 img nm z .answer)) → freeBlocks (view 512 (create 512 img nm z .image)) + (1 + need 512 z) ≡ freeBlocks (view 512 img)
+  pub written : (h o : ℕ) (buf : List ℕ) → freeBlocks (view 512 (write 512 img h o buf .image)) ≡ freeBlocks (view 512 img)
+
+pub room-law : (img : List ℕ) → Consistent 512 img → RoomLaw img
+room-law img ok =
+    record { removed = removed-room 512 size-512 img ok; created = created-room 512 size-512 img ok; written = written-room 512 size-512 img ok }

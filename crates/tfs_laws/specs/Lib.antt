@@ -26,4 +26,5 @@ pub mod Tail
 pub mod Ignored
 pub mod Grants
 pub mod Touches
+pub mod Rooms
 pub mod Demands
