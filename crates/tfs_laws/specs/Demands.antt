@@ -28,6 +28,7 @@ use Rattle.tfs_laws.specs.Tail.{TailKept, tail-kept, SameVolume, TailLaw
 use Rattle.tfs_laws.specs.Grants.{Stands, LabelRule, NameRule, label-allowed, name-allowed, FormatRule, format-rule, GrantLaw, grants, CreateGranted, create-grants}
 use Rattle.tfs_laws.specs.Touches.{RemoveTouch, remove-touches, CreateTouch, create-touches}
 use Rattle.tfs_laws.specs.Rooms.{removed-room, created-room, written-room}
+use Rattle.tfs_laws.specs.HandleSteps.{MeansFile, means-file, StepLaw, step-law, HandlesLaw, handles-law}
 use Rattle.tfs_laws.specs.Ignored.{SameRead, IgnoredLaw, ignored}
 use Rattle.tfs_laws.specs.Laws.{size-512}
 
@@ -249,6 +250,18 @@ handle-law img ok =
           subst (KeptHandle 512 (create 512 (remove 512 img nm .image) other z .image) other h) (open-number 512 size-512 img ok nm k e)
           (kept-handle 512 size-512 img ok nm other z h g c);
     }
+
+-- what a handle means, in plain facts, and over one request
+pub record HandleStepLaw (img : List ℕ) : Type 0 where
+  pub means : (h : ℕ) (nm : List ℕ) → Means 512 (view 512 img) h nm ↔ MeansFile 512 (view 512 img) h nm
+  pub step : StepLaw 512 img
+
+pub handle-step-law : (img : List ℕ) → Consistent 512 img → HandleStepLaw img
+handle-step-law img ok = record { means = means-file 512 (view 512 img) (ok .sound); step = step-law 512 size-512 img ok }
+
+-- and over any number of requests out of create, remove and write, refused ones included
+pub handle-list-law : (img : List ℕ) → Consistent 512 img → (cs : List Change) → HandlesLaw 512 img cs
+handle-list-law img ok cs = handles-law 512 size-512 img ok cs
 
 -- "ignored and kept": create, remove and write keep block 0, bytes 500..511 of block 2 and the map's bits from N on
 pub record KeepLaw (img : List ℕ) : Type 0 where

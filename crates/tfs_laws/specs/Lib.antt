@@ -27,4 +27,5 @@ pub mod Ignored
 pub mod Grants
 pub mod Touches
 pub mod Rooms
+pub mod HandleSteps
 pub mod Demands
