@@ -1,5 +1,6 @@
 -- Demands 1 and 2 at the block size 512: one record and one claim for each sentence.
--- Each file that is named here proves its law over any block size. Laws.antt has the laws of demand 3.
+-- Each file that is named here proves its law over B; most of them want a BlockSize, 512 or more and whole 32-bit words.
+-- Laws.antt has the laws of demand 3.
 use mathlib.Core.Path.{_≡_, refl, sym, ap, ap₂, _∙_, subst}
 use mathlib.Core.Logic.{_↔_}
 use mathlib.Core.Bool.{not}
@@ -28,8 +29,9 @@ use Rattle.tfs_laws.specs.Tail.{TailKept, tail-kept, SameVolume, TailLaw
 use Rattle.tfs_laws.specs.Grants.{Stands, LabelRule, NameRule, label-allowed, name-allowed, FormatRule, format-rule, GrantLaw, grants, CreateGranted, create-grants}
 use Rattle.tfs_laws.specs.Touches.{RemoveTouch, remove-touches, CreateTouch, create-touches}
 use Rattle.tfs_laws.specs.Rooms.{removed-room, created-room, written-room}
-use Rattle.tfs_laws.specs.HandleSteps.{MeansFile, means-file, StepLaw, step-law, HandlesLaw, handles-law}
+use Rattle.tfs_laws.specs.HandleSteps.{MeansFile, means-file, afterAll, StepLaw, step-law, HandlesLaw, handles-law}
 use Rattle.tfs_laws.specs.Ignored.{SameRead, IgnoredLaw, ignored}
+use Rattle.tfs_laws.specs.IgnoredSteps.{same-after-all}
 use Rattle.tfs_laws.specs.Laws.{size-512}
 
 -- ---- the numbers of the layout
@@ -275,6 +277,10 @@ kept-law img = record { created = create-kept size-512 img; removed = remove-kep
 -- the rest of block 0, those bytes and those bits have no say in any answer, nor in what read gives
 pub ignored-law : (a b : List ℕ) → SameRead 512 a b → IgnoredLaw 512 a b
 ignored-law a b same = ignored 512 size-512 a b same
+
+-- and what create, remove and write leave of two such images differs in no more, however many there are
+pub ignored-list-law : (a b : List ℕ) → SameRead 512 a b → (cs : List Change) → SameRead 512 (afterAll 512 a cs) (afterAll 512 b cs)
+ignored-list-law a b same cs = same-after-all 512 size-512 a b same cs
 
 -- "Bytes from 512·N on are never read or changed"
 pub record BeyondLaw (img : List ℕ) : Type 0 where

@@ -28,4 +28,5 @@ pub mod Grants
 pub mod Touches
 pub mod Rooms
 pub mod HandleSteps
+pub mod IgnoredSteps
 pub mod Demands

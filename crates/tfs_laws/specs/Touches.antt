@@ -3,7 +3,7 @@ use mathlib.Core.Path.{_≡_, refl, sym, ap, _∙_, subst}
 use mathlib.Core.Logic.{_≢_, _⊎_, inl, inr, ⊎-elim}
 use mathlib.Core.Bool.{Bool, true, false, not}
 use Prim.Native.Nat.{ℕ, zero, suc, _+_, _*_, _/_, _%_, _≤_, _<_}
-use mathlib.Core.List.{List, _++_}
+use mathlib.Core.List.{List, _∷_, _++_}
 use native.Mathlib.Omega.{arith}
 use native.Mathlib.Nat.{div-add-mod', mod-lt}
 use native.Mathlib.Decide.{ℕ-discrete, decLt}
@@ -13,9 +13,9 @@ use lib.Dec.{T}
 use Rattle.lists.specs.Test.{to-true}
 use Rattle.lists.specs.Least.{least-below}
 use Rattle.lists.specs.Name.{zeros, padTo}
-use Rattle.lists.specs.Word.{bytes4}
+use Rattle.lists.specs.Word.{bytes4, words}
 use Rattle.lists.specs.Part.{getD-with-in, getD-with-before, getD-with-after}
-use Rattle.tfs_rules.specs.Layout.{BlockSize, slots, need, block, mapBit, slot, setSlot, entry, inodeSize, inodeNumber}
+use Rattle.tfs_rules.specs.Layout.{BlockSize, slots, need, block, mapBit, slot, setSlot, entry, inodeSize, inodeNumber, inodeBlock}
 use Rattle.tfs_rules.specs.View.{View, view, free, inode, size, number, slotOf, freeSlot}
 use Rattle.tfs_rules.specs.Check.{fileClaims}
 use Rattle.tfs_rules.specs.Consistent.{File, Owner, inodeOf, contentOf, Owns, Consistent}
@@ -70,7 +70,7 @@ module _ (dir : List ℕ) (s : ℕ) (e : List ℕ) (k : length e ≡ 20) (h : s 
 abbrev pub BlockOf : ℕ → View → ℕ → ℕ → Type 0
 BlockOf B v s b = (inode v s ≡ b) ⊎ ((k : ℕ) × (k < need B (size v s)) × (number v s k ≡ b))
 
-block-claimed : (B : ℕ) (v : View) (s b : ℕ) → File B v s → BlockOf B v s b → In b (fileClaims B v s)
+pub block-claimed : (B : ℕ) (v : View) (s b : ℕ) → File B v s → BlockOf B v s b → In b (fileClaims B v s)
 block-claimed B v s b f w =
     ⊎-elim (λ e. owner-claims B v (inodeOf s) b (f, e)) (λ k. owner-claims B v (contentOf s (k .0)) b (f, k .1, k .2)) w
 
@@ -78,7 +78,7 @@ owned-block : (B : ℕ) (v : View) (o : Owner) (b : ℕ) → Owns B v o b → Bl
 owned-block B v (inodeOf s) b w = inl (w .1)
 owned-block B v (contentOf s k) b w = inr (k, w .1, w .2)
 
-claimed-block : (B : ℕ) (v : View) (s b : ℕ) → File B v s → In b (fileClaims B v s) → BlockOf B v s b
+pub claimed-block : (B : ℕ) (v : View) (s b : ℕ) → File B v s → In b (fileClaims B v s) → BlockOf B v s b
 claimed-block B v s b f i =
     let o = claims-owner B v s b f i in subst (λ (t : ℕ). BlockOf B v t b) (o .1) (owned-block B v (o .0) b (o .2))
 
@@ -187,7 +187,8 @@ pub record CreateTouch (B : ℕ) (img new nm : List ℕ) (z h s : ℕ) (cs : Lis
   pub marked : (b : ℕ) → In b cs → mapBit (block B new 1) b ≡ true
   -- the 20 bytes of the slot: inode number, "name padded with zeros"
   pub entry : slot (block B new 2) s ≡ bytes4 h ++ padTo 16 nm
-  -- the inode: size and block numbers; "Unused inode numbers are 0"
+  -- the inode's bytes: size, block numbers, zeros; as they are read, "Unused inode numbers are 0"
+  pub inode : block B new h ≡ padTo B (words (z ∷ drop 1 cs))
   pub size : inodeSize (block B new h) ≡ z
   pub listed : (k : ℕ) → k < need B z → inodeNumber (block B new h) k ≡ getD cs (suc k) 0
   pub unlisted : (k : ℕ) → need B z ≤ k → inodeNumber (block B new h) k ≡ 0
@@ -234,7 +235,7 @@ module _ (B : ℕ) (sz : BlockSize B) (img : List ℕ) (ok : Consistent B img) (
   length-new = length-entry nm (allowed nm (gr .named)) (getD cs 0 0)
 
   new-touch : CreateTouch B img after nm z (getD cs 0 0) t cs
-  unfolding entry
+  unfolding entry inodeBlock
   new-touch =
       record {
         vacant = vacant-hit B w (gr .slot);
@@ -243,6 +244,7 @@ module _ (B : ℕ) (sz : BlockSize B) (img : List ℕ) (ok : Consistent B img) (
         handle = refl;
         marked = λ b i. (ap (λ (m : List ℕ). mapBit m b) (sym (view-map B after)) ∙ to-true (mapBit (view B after .map) b) (made.bit-in B sz img ok nm z gr b i));
         entry = ap (λ (d : List ℕ). slot d t) (sym (view-dir B after)) ∙ made.new-slot B sz img ok nm z gr;
+        inode = made.new-inode B sz img ok nm z gr;
         size = ap inodeSize (made.new-inode B sz img ok nm z gr) ∙ inode-size B z (drop 1 cs) (made.room-inode B sz img ok nm z gr);
         listed = λ k l.
             (ap (λ (x : List ℕ). inodeNumber x k) (made.new-inode B sz img ok nm z gr)
@@ -266,14 +268,18 @@ module _ (B : ℕ) (sz : BlockSize B) (img : List ℕ) (ok : Consistent B img) (
       }
 
 -- a granted create does this, and no more
+pub created-touch : (B : ℕ) → BlockSize B → (img : List ℕ) → Consistent B img → (nm : List ℕ) (z : ℕ) → T (granted (create B img nm z .answer)) → CreateTouch B img (create B img nm z .image) nm z (getD (chosen B (view B img) z) 0 0) (freeSlot B (view B img)) (chosen B (view B img) z)
+created-touch B sz img ok nm z g =
+    let passed : Passed B img = check-means B sz img .1 ok in
+    let v : View = view B img in
+    subst (λ (x : List ℕ). CreateTouch B img x nm z (getD (chosen B v z) 0 0) (freeSlot B v) (chosen B v z)) (sym (create-image B img passed nm z g))
+    (new-touch B sz img ok nm z (create-granted B img passed nm z g))
+
 pub create-touches : (B : ℕ) → BlockSize B → (img : List ℕ) → Consistent B img → (nm : List ℕ) (z h : ℕ) → create B img nm z .answer ≡ value h → (s : ℕ) × (cs : List ℕ) × CreateTouch B img (create B img nm z .image) nm z h s cs
 create-touches B sz img ok nm z h e =
     let g : T (granted (create B img nm z .answer)) = subst (λ (a : Answer). T (granted a)) (sym e) tt in
-    let passed : Passed B img = check-means B sz img .1 ok in
     let v : View = view B img in (
       freeSlot B v,
       chosen B v z,
-      subst (λ (x : List ℕ). CreateTouch B img x nm z h (freeSlot B v) (chosen B v z)) (sym (create-image B img passed nm z g))
-          (subst (λ (x : ℕ). CreateTouch B img (storeAll B img (createStores B v nm z)) nm z x (freeSlot B v) (chosen B v z)) (answered B sz img ok nm z h e)
-          (new-touch B sz img ok nm z (create-granted B img passed nm z g))),
+      subst (λ (x : ℕ). CreateTouch B img (create B img nm z .image) nm z x (freeSlot B v) (chosen B v z)) (answered B sz img ok nm z h e) (created-touch B sz img ok nm z g),
     )
