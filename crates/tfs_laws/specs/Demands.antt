@@ -87,7 +87,7 @@ fault-law img num p first =
       on-free = rw e;
     }
 
--- a volume that is not consistent has a first fault, and that is what each of them refuses it with
+-- so a volume that is not consistent has a first fault, and every request but format refuses it with that fault and its place
 pub record FaultyLaw (img : List ℕ) : Type 0 where
   pub rule : ℕ
   pub place : ℕ
