@@ -1,4 +1,4 @@
--- Marks: the first header of each depth in each of 128 parts of the image. A header is sought from a mark before it.
+-- Marks: the first header of each depth in each of 256 parts of the image. A header is sought from a mark before it.
 use Prim.Native.Nat.{ℕ, zero, suc, _+_, _*_, _/_, _≤_, _<_}
 use mathlib.Core.Path.{_≡_, refl}
 use mathlib.Core.Logic.{_≢_}
@@ -17,7 +17,7 @@ use Rattle.romfs_rules.specs.Check.{leads}
 
 -- where the eight marks of the part with offset p stand
 unfoldable pub rowOf : ℕ → ℕ → ℕ
-rowOf full p = p / (full / 128 + 1) * 8
+rowOf full p = p / (full / 256 + 1) * 8
 
 -- p as the mark at i, unless there is one
 unfoldable pub markAt : List ℕ → ℕ → ℕ → List ℕ
@@ -36,10 +36,10 @@ markTo marks row want =
 abbrev pub Marked : List ℕ → List ℕ → Type 0
 Marked s marks = (i : ℕ) → getD marks i 0 ≢ 0 → IsReached s (getD marks i 0)
 
-pub row-in : (full p : ℕ) → p < full → rowOf full p + 8 ≤ 1024
+pub row-in : (full p : ℕ) → p < full → rowOf full p + 8 ≤ 2048
 unfolding rowOf
 row-in full p h =
-    let few : p / (full / 128 + 1) < 128 = div-lt-iff-lt-mul {k = full / 128 + 1} {x = p} {y = 128} (omega arith) .1 (omega arith) in
+    let few : p / (full / 256 + 1) < 256 = div-lt-iff-lt-mul {k = full / 256 + 1} {x = p} {y = 256} (omega arith) .1 (omega arith) in
     omega arith
 
 -- ---- the search for a mark

@@ -81,30 +81,18 @@ fn check_volume(image: &[u8]) -> CheckAnswer
     CheckAnswer::Accepted
 }
 
-// ---- marks
-
-// The image is taken in 128 parts, and a part has eight marks: the first header of each depth in it, or 0.
-
-// Whether an offset is a header's at or before the wanted one.
-fn leads_to(to: usize, want: usize) -> bool
-    ensures { λ r. ⌜ r ≡ leads to want ⌝ }
-{
-    if to == 0 {
-        return false;
-    }
-    to <= want
-}
+// ---- marks: the image is taken in 256 parts, and a part has eight marks, the first header of each depth in it, or 0
 
 // Where the marks of the part with an offset stand.
 fn row_of(full: usize, p: usize) -> usize
     requires { ⌜ p < full ⌝ }
-    ensures { λ r. ⌜ (r ≡ rowOf full p) × (r + 8 ≤ 1024) ⌝ }
+    ensures { λ r. ⌜ (r ≡ rowOf full p) × (r + 8 ≤ 2048) ⌝ }
 {
-    p / (full / 128 + 1) * 8
+    p / (full / 256 + 1) * 8
 }
 
 // Marks a header, if it is the first of its depth in its part.
-fn mark(full: usize, p: usize, left: usize, marks: &mut [u32; 1024])
+fn mark(full: usize, p: usize, left: usize, marks: &mut [u32; 2048])
     requires { ⌜ (p < full) × (full < 4294967296) × (left ≤ 7) ⌝ }
     ensures { λ _. ⌜ now (marks .exit) ≡ markAt (now (marks .entry)) (rowOf full p + (7 - left)) p ⌝ }
 {
@@ -114,10 +102,10 @@ fn mark(full: usize, p: usize, left: usize, marks: &mut [u32; 1024])
     }
 }
 
-// The mark of the least depth at or before the wanted offset, or 0. Nothing between the two is less deep, so that the path
-// from the mark leads to every header there.
-fn mark_to(row: usize, want: usize, marks: &[u32; 1024]) -> usize
-    requires { ⌜ row + 8 ≤ 1024 ⌝ }
+// The mark of the least depth at or before the wanted offset, or 0. No header between them is less deep, so that the path
+// from the mark leads to each of them.
+fn mark_to(row: usize, want: usize, marks: &[u32; 2048]) -> usize
+    requires { ⌜ row + 8 ≤ 2048 ⌝ }
     ensures { λ r. ⌜ r ≡ markTo (now (marks .entry)) row want ⌝ }
 {
     let mut i: usize = 0;
@@ -140,7 +128,7 @@ fn walk_list(
     at: usize,
     bound: usize,
     left: usize,
-    marks: &mut [u32; 1024],
+    marks: &mut [u32; 2048],
 ) -> CheckAnswer
     requires { ⌜ Whole (now image) full × (at < bound) × (bound ≤ full) × (left ≤ 7) × Reached (now image) at bound (8 - left) × Marked (now image) (now marks) ⌝ }
     ensures { λ r. ⌜ (told r ≡ visitList (now (image .entry)) (visitEntry (now (image .entry)) (fault (now (image .entry))) left bound) (bound - at) at) × CheckFits r × Marked (now (image .entry)) (now (marks .exit)) ⌝ }
@@ -169,7 +157,7 @@ fn walk_entry(
     p: usize,
     bound: usize,
     left: usize,
-    marks: &mut [u32; 1024],
+    marks: &mut [u32; 2048],
 ) -> CheckAnswer
     requires { ⌜ Whole (now image) full × (p < bound) × (bound ≤ full) × (left ≤ 7) × Reached (now image) p bound (8 - left) × Marked (now image) (now marks) ⌝ }
     ensures { λ r. ⌜ (told r ≡ visitEntry (now (image .entry)) (fault (now (image .entry))) left bound p) × CheckFits r × Marked (now (image .entry)) (now (marks .exit)) ⌝ }
@@ -182,7 +170,7 @@ fn walk_entry(
     }
 }
 
-fn check_walk(image: &[u8], full: usize, marks: &mut [u32; 1024]) -> CheckAnswer
+fn check_walk(image: &[u8], full: usize, marks: &mut [u32; 2048]) -> CheckAnswer
     requires { ⌜ Whole (now image) full × Volume (now image) × Marked (now image) (now marks) ⌝ }
     ensures { λ r. ⌜ (told r ≡ walk (now (image .entry))) × CheckFits r × Marked (now (image .entry)) (now (marks .exit)) ⌝ }
 {
@@ -194,6 +182,16 @@ fn check_walk(image: &[u8], full: usize, marks: &mut [u32; 1024]) -> CheckAnswer
 }
 
 // ---- reached headers
+
+// Whether an offset is a header's at or before the wanted one.
+fn leads_to(to: usize, want: usize) -> bool
+    ensures { λ r. ⌜ r ≡ leads to want ⌝ }
+{
+    if to == 0 {
+        return false;
+    }
+    to <= want
+}
 
 // Where the path to the wanted header goes on, or 0.
 fn step_towards(image: &[u8], full: usize, want: usize, p: usize) -> usize
@@ -245,8 +243,8 @@ pub fn is_reached(image: &[u8], full: usize, want: usize) -> bool
     seek_from(image, full, first, want)
 }
 
-// The same with the marks of the walk. The search from the root is left for a header that is not reached.
-fn is_reached_by(image: &[u8], full: usize, want: usize, marks: &[u32; 1024]) -> bool
+// The same from a mark of the walk. What is not found so is sought from the root: of the links, the first bad one alone.
+fn is_reached_by(image: &[u8], full: usize, want: usize, marks: &[u32; 2048]) -> bool
     requires { ⌜ Walked (now image) full × Marked (now image) (now marks) ⌝ }
     ensures { λ r. ⌜ r ≡ isReached (now (image .entry)) want ⌝ }
 {
@@ -263,7 +261,7 @@ fn is_reached_by(image: &[u8], full: usize, want: usize, marks: &[u32; 1024]) ->
 
 // ---- rule 29
 
-fn bad_link(image: &[u8], full: usize, p: usize, marks: &[u32; 1024]) -> bool
+fn bad_link(image: &[u8], full: usize, p: usize, marks: &[u32; 2048]) -> bool
     requires { ⌜ Walked (now image) full × (p + 32 ≤ full) × Marked (now image) (now marks) ⌝ }
     ensures { λ r. ⌜ r ≡ badLink (now (image .entry)) p ⌝ }
 {
@@ -316,7 +314,7 @@ fn links_list(
     at: usize,
     bound: usize,
     left: usize,
-    marks: &[u32; 1024],
+    marks: &[u32; 2048],
 ) -> CheckAnswer
     requires { ⌜ Walked (now image) full × (left ≤ 7) × Reached (now image) at bound (8 - left) × Marked (now image) (now marks) ⌝ }
     ensures { λ r. ⌜ (told r ≡ visitList (now (image .entry)) (visitEntry (now (image .entry)) (linkFault (now (image .entry))) left bound) (bound - at) at) × CheckFits r ⌝ }
@@ -344,7 +342,7 @@ fn links_entry(
     p: usize,
     bound: usize,
     left: usize,
-    marks: &[u32; 1024],
+    marks: &[u32; 2048],
 ) -> CheckAnswer
     requires { ⌜ Walked (now image) full × (left ≤ 7) × Reached (now image) p bound (8 - left) × Marked (now image) (now marks) ⌝ }
     ensures { λ r. ⌜ (told r ≡ visitEntry (now (image .entry)) (linkFault (now (image .entry))) left bound p) × CheckFits r ⌝ }
@@ -358,7 +356,7 @@ fn links_entry(
     }
 }
 
-fn check_links(image: &[u8], full: usize, marks: &[u32; 1024]) -> CheckAnswer
+fn check_links(image: &[u8], full: usize, marks: &[u32; 2048]) -> CheckAnswer
     requires { ⌜ Walked (now image) full × Marked (now image) (now marks) ⌝ }
     ensures { λ r. ⌜ (told r ≡ links (now (image .entry))) × CheckFits r ⌝ }
 {
@@ -377,7 +375,7 @@ fn check_headers(image: &[u8]) -> CheckAnswer
     ensures { λ r. ⌜ (told r ≡ andThen (walk (now (image .entry))) (links (now (image .entry)))) × CheckFits r ⌝ }
 {
     let full = romfs_headers::full_size(image);
-    let mut marks = [0u32; 1024];
+    let mut marks = [0u32; 2048];
     match check_walk(image, full, &mut marks) {
         CheckAnswer::Refused(f) => CheckAnswer::Refused(f),
         CheckAnswer::Accepted => check_links(image, full, &marks),

@@ -16,7 +16,7 @@ check-walk-requires : tie.Need-check-walk-requires
 check-walk-requires c κs =
     let v = c .before .before .before .pre in
     let f = c .before .full-size .ensures in
-    (whole-volume _ _ v (f .0) (f .1), v, marked-none _ 1024)
+    (whole-volume _ _ v (f .0) (f .1), v, marked-none _ 2048)
 
 check-links-requires : tie.Need-check-links-requires
 check-links-requires c κs =
