@@ -25,7 +25,7 @@ pub fn be32(image: &[u8], at: usize) -> u32
     word_of(image[at], image[at + 1], image[at + 2], image[at + 3])
 }
 
-fn wide(x: u32) -> usize
+pub fn wide(x: u32) -> usize
     ensures { λ r. ⌜ (r ≡ x) × (r < 4294967296) ⌝ }
 {
     x as usize
