@@ -144,9 +144,15 @@ fn fill(image: &mut [u8]) -> u32 {
 // A name that stands in a full directory, and a new one.
 fn two_names(image: &mut [u8]) {
     answer(b"  create A: ", tfs_change::create(image, b"A", 0));
-    answer(b"  create Y, 65024 bytes: ", tfs_change::create(image, b"Y", 65024));
+    answer(
+        b"  create Y, 65024 bytes: ",
+        tfs_change::create(image, b"Y", 65024),
+    );
     answer(b"  create NEW: ", tfs_change::create(image, b"NEW", 0));
-    answer(b"  create NEW, 65024 bytes: ", tfs_change::create(image, b"NEW", 65024));
+    answer(
+        b"  create NEW, 65024 bytes: ",
+        tfs_change::create(image, b"NEW", 65024),
+    );
 }
 
 // A full directory.

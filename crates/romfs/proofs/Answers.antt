@@ -16,7 +16,7 @@ use Rattle.romfs_rules.specs.Rules.{Verdict, accepted}
 use Rattle.romfs_rules.specs.Reached.{along, IsReached}
 use Rattle.romfs_rules.specs.Check.{isReached, check}
 use Rattle.romfs_rules.specs.Answers as answers
-use Rattle.romfs_rules.specs.Answers.{Answer, granted, denied, checked, firstOf, matchFrom, matchIn, isDirectory, found, Entry, entryAt, described, measured, partOf}
+use Rattle.romfs_rules.specs.Answers.{Answer, granted, denied, checked, firstOf, matchFrom, matchIn, isDirectory, found, Entry, entryAt, described, measured, partOf, startOf}
 use Rattle.romfs_rules.specs.Walked.{volume-of, sound}
 use Rattle.romfs_rules.specs.Theorems.{check-parts}
 use Rattle.romfs_rules.specs.Find.{match-yes, match-end, match-next}
@@ -172,6 +172,15 @@ module _ (s : List ℕ) (p : ℕ) where
   pub content-is : (a : Answer ℕ) → a ≡ answers.contentLength s p → partOf s (contentAt s p) a ≡ answers.content s p
   unfolding answers.content
   content-is a e = ap (partOf s (contentAt s p)) e
+
+  -- where each case of the length's answer begins
+  pub start-is : (a : Answer ℕ) → a ≡ answers.contentLength s p → startOf (contentAt s p) a ≡ answers.contentStart s p
+  unfolding answers.contentStart
+  start-is a e = ap (startOf (contentAt s p)) e
+
+  pub unsound-start : (x : Fault) (at : ℕ) → 0 ≡ startOf at (toldUnsound x)
+  unsound-start (fault.Volume n) at = refl
+  unsound-start (fault.Header n q) at = refl
 
   pub content-start : (n e : ℕ) → n ≡ nameLength s (p + 16) → e ≡ p + 16 + pad16 (n + 1) → e ≡ contentAt s p
   unfolding contentAt afterName

@@ -1,7 +1,8 @@
 // romfs: check, find, entry and content of a read-only image.
 ghost use mathlib.Core.Path.{_≡_};
 ghost use mathlib.Core.Bool.{true};
-ghost use Prim.Native.Nat.{_<_};
+ghost use Prim.Native.Nat.{_+_, _≤_, _<_};
+ghost use lib.ListN.{length};
 ghost use Rattle.lists.specs.Part.{part};
 ghost use Rattle.romfs_rules.specs.Layout.{contentAt};
 ghost use Rattle.romfs_rules.specs.Rules.{accepted};
@@ -11,8 +12,8 @@ ghost use Rattle.romfs_rules.specs.Answers as answers;
 ghost use Rattle.romfs_rules.specs.Answers.{firstOf, isDirectory, matchFrom, found, described, measured};
 ghost use Rattle.romfs_rules.specs.Given.{Content};
 ghost use Rattle.romfs_check.specs.Known.{Walked};
-ghost use Rattle.romfs_check.specs.Told.{told};
-ghost use Rattle.romfs.specs.Told.{toldFind, toldEntry, toldContent};
+ghost use Rattle.romfs_check.specs.Told.{told, CheckFits};
+ghost use Rattle.romfs.specs.Told.{toldFind, FindFits, toldEntry, EntryFits, toldContent, ContentFits, LiesAt};
 use romfs_check::CheckAnswer;
 use romfs_check::Fault;
 
@@ -46,7 +47,7 @@ pub enum ContentAnswer {
 // ---- check
 
 pub fn check(image: &[u8]) -> CheckAnswer
-    ensures { λ r. ⌜ told r ≡ rules.check (now (image .entry)) ⌝ }
+    ensures { λ r. ⌜ (told r ≡ rules.check (now (image .entry))) × CheckFits r ⌝ }
 {
     romfs_check::check(image)
 }
@@ -102,7 +103,7 @@ fn match_from(image: &[u8], full: usize, first: usize, name: &[u8]) -> usize
 
 fn find_in(image: &[u8], dir: usize, name: &[u8]) -> FindAnswer
     requires { ⌜ rules.check (now image) ≡ accepted ⌝ }
-    ensures { λ r. ⌜ toldFind r ≡ found (now (image .entry)) dir (now (name .entry)) ⌝ }
+    ensures { λ r. ⌜ (toldFind r ≡ found (now (image .entry)) dir (now (name .entry))) × FindFits r ⌝ }
 {
     let full = romfs_headers::full_size(image);
     if !is_directory(image, full, dir) {
@@ -121,7 +122,7 @@ fn find_in(image: &[u8], dir: usize, name: &[u8]) -> FindAnswer
 
 // The header of a name in the list of a directory; 0 is the root list.
 pub fn find(image: &[u8], dir: u32, name: &[u8]) -> FindAnswer
-    ensures { λ r. ⌜ toldFind r ≡ answers.find (now (image .entry)) dir (now (name .entry)) ⌝ }
+    ensures { λ r. ⌜ (toldFind r ≡ answers.find (now (image .entry)) dir (now (name .entry))) × FindFits r ⌝ }
 {
     match romfs_check::check(image) {
         CheckAnswer::Refused(f) => FindAnswer::Inconsistent(f),
@@ -133,7 +134,7 @@ pub fn find(image: &[u8], dir: u32, name: &[u8]) -> FindAnswer
 
 fn entry_at(image: &[u8], at: usize) -> EntryAnswer
     requires { ⌜ rules.check (now image) ≡ accepted ⌝ }
-    ensures { λ r. ⌜ toldEntry r ≡ described (now (image .entry)) at ⌝ }
+    ensures { λ r. ⌜ (toldEntry r ≡ described (now (image .entry)) at) × EntryFits r ⌝ }
 {
     let full = romfs_headers::full_size(image);
     if !romfs_check::is_reached(image, full, at) {
@@ -150,7 +151,7 @@ fn entry_at(image: &[u8], at: usize) -> EntryAnswer
 }
 
 pub fn entry(image: &[u8], at: u32) -> EntryAnswer
-    ensures { λ r. ⌜ toldEntry r ≡ answers.entry (now (image .entry)) at ⌝ }
+    ensures { λ r. ⌜ (toldEntry r ≡ answers.entry (now (image .entry)) at) × EntryFits r ⌝ }
 {
     match romfs_check::check(image) {
         CheckAnswer::Refused(f) => EntryAnswer::Inconsistent(f),
@@ -162,7 +163,7 @@ pub fn entry(image: &[u8], at: u32) -> EntryAnswer
 
 fn length_at(image: &[u8], at: usize) -> ContentAnswer
     requires { ⌜ rules.check (now image) ≡ accepted ⌝ }
-    ensures { λ r. ⌜ toldContent r ≡ measured (now (image .entry)) at ⌝ }
+    ensures { λ r. ⌜ (toldContent r ≡ measured (now (image .entry)) at) × ContentFits r ⌝ }
 {
     let full = romfs_headers::full_size(image);
     if !romfs_check::is_reached(image, full, at) {
@@ -175,7 +176,7 @@ fn length_at(image: &[u8], at: usize) -> ContentAnswer
 }
 
 pub fn content_length(image: &[u8], at: u32) -> ContentAnswer
-    ensures { λ r. ⌜ toldContent r ≡ answers.contentLength (now (image .entry)) at ⌝ }
+    ensures { λ r. ⌜ (toldContent r ≡ answers.contentLength (now (image .entry)) at) × ContentFits r ⌝ }
 {
     match romfs_check::check(image) {
         CheckAnswer::Refused(f) => ContentAnswer::Inconsistent(f),
@@ -185,7 +186,7 @@ pub fn content_length(image: &[u8], at: u32) -> ContentAnswer
 
 // The content as that part of the image; an empty part where it is refused.
 pub fn content<'a>(image: &'a [u8], at: u32) -> &'a [u8]
-    ensures { λ r. ⌜ now r ≡ answers.content (now (image .entry)) at ⌝ }
+    ensures { λ r. ⌜ (now r ≡ answers.content (now (image .entry)) at) × LiesAt r (image .entry) (answers.contentStart (now (image .entry)) at) ⌝ }
 {
     match content_length(image, at) {
         ContentAnswer::Refused(_) => &image[0..0],
@@ -194,12 +195,20 @@ pub fn content<'a>(image: &'a [u8], at: u32) -> &'a [u8]
     }
 }
 
-fn content_part<'a>(image: &'a [u8], at: usize, n: usize) -> &'a [u8]
+// Where the content of n bytes begins: at the padded name's end.
+pub fn content_start(image: &[u8], at: usize, n: usize) -> usize
     requires { ⌜ Content (now image) at n ⌝ }
-    ensures { λ r. ⌜ now r ≡ part (contentAt (now (image .entry)) at) n (now (image .entry)) ⌝ }
+    ensures { λ r. ⌜ (r ≡ contentAt (now (image .entry)) at) × (r + n ≤ length (now (image .entry))) × (r < 4294967296) ⌝ }
 {
     let full = romfs_headers::full_size(image);
     let l = romfs_headers::name_length(image, at + 16, full);
-    let start = romfs_headers::after_name(at + 16, l);
+    romfs_headers::after_name(at + 16, l)
+}
+
+fn content_part<'a>(image: &'a [u8], at: usize, n: usize) -> &'a [u8]
+    requires { ⌜ Content (now image) at n ⌝ }
+    ensures { λ r. ⌜ (now r ≡ part (contentAt (now (image .entry)) at) n (now (image .entry))) × LiesAt r (image .entry) (contentAt (now (image .entry)) at) ⌝ }
+{
+    let start = content_start(image, at, n);
     &image[start..start + n]
 }

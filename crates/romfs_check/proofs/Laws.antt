@@ -8,17 +8,17 @@ use native.Mathlib.Omega.{arith}
 use borrow.Author.Tests.{eq-eqb, ne-eqb, lt-ltb, le-ltb, ltb-false}
 use lib.Dec.{ltb, eqb}
 use lib.ListN.{length}
-use Rattle.romfs_rules.specs.Layout.{fullSize, firstRoot, nameLength, nameEnds, wordSum, kind, next, info, isDots, hasList}
+use Rattle.romfs_rules.specs.Layout.{fullSize, firstRoot, nameLength, nameEnds, wordSum, kind, next, info, own, isDots, hasList}
 use Rattle.romfs_rules.specs.Rules as rules
 use Rattle.romfs_rules.specs.Rules.{Verdict, accepted, refused, short21, magic22, size23, sum24, name25}
 use Rattle.romfs_rules.specs.Reached.{Reached, root, along, inside, IsReached, Sound}
 use Rattle.romfs_rules.specs.Check.{andThen, visitList, visitEntry, visitAll, walk, volume, links, check, leads, towards, seek, isReached, badLink}
 use Rattle.lists.specs.Test.{or-no-l, or-no-r}
-use Rattle.romfs_rules.specs.Facts.{room, ends, next-from, next-to, own-to, first-to, depth-to, fault-sound, list-descends, list-first}
+use Rattle.romfs_rules.specs.Facts.{room, ends, next-from, next-to, own-to, first-to, depth-to, fault-sound, fault-number, list-descends, list-first}
 use Rattle.romfs_rules.specs.Visit.{list-refused, list-last, list-next, entry-refused, entry-leaf, entry-list, entry-test}
 use Rattle.romfs_rules.specs.Walked.{Volume, full-from, full-to, root-to, visit-none, visit-root, sound, reached-in, reached-room}
 use Rattle.romfs_rules.specs.Links.{linkFault}
-use Rattle.romfs_rules.specs.Seek.{seek-here, seek-none, seek-on, is-none, is-seek, towards-reached, towards-further}
+use Rattle.romfs_rules.specs.Seek.{seek-here, seek-none, seek-on, seek-reached, reached-is, is-none, is-seek, towards-reached, towards-further}
 use Rattle.romfs_headers.specs.Known.{Whole, Reads, stepOf, step-reads}
 use Rattle.romfs_check.specs.Known.{Walked, Lies}
 use Rattle.romfs_check.specs.Facts.{reach-room, sound-next}
@@ -62,9 +62,22 @@ walked-sound s left bound p l e = fault-sound s p bound (8 - left) (entry-test s
 pub sound-room : (s : List ℕ) (bound d p : ℕ) → Sound s p bound d → p + 32 ≤ bound
 sound-room s bound d p h = omega (arith, room s p, ends s p bound d h)
 
+-- the next of a reached header is reached
+pub reached-next : (s : List ℕ) (bound depth p : ℕ) → Reached s p bound depth → (q : ℕ) → q ≡ next s p → (q ≡ 0 → ⊥) → Reached s q bound depth
+reached-next s bound depth p r q e z = subst (λ (x : ℕ). Reached s x bound depth) (sym e) (along r (λ y. z (e ∙ y)))
+
+-- the list of a reached header is reached
+pub reached-below : (s : List ℕ) (bound left p : ℕ) → left ≤ 7 → 1 ≤ left → Reached s p bound (8 - left) → (f o : ℕ) → hasList s p ≡ true → f ≡ info s p → o ≡ own s bound p → Reached s f o (8 - (left - 1))
+reached-below s bound left p l m r f o t e g =
+    let d : 8 - (left - 1) ≡ suc (8 - left) = omega arith in
+    rw (d, e, g) (inside r (list-descends s p t) (list-first s p t))
+
 -- ---- a step
 pub reads-of : (s : List ℕ) (bound left p : ℕ) {a b : Step} → a ≡ b → a ≡ stepOf s bound left p → Reads s bound left p b
 reads-of s bound left p {a} {b} e h = step-reads s bound left p b (sym e ∙ h)
+
+pub step-number : (s : List ℕ) (bound left p n : ℕ) → Reads s bound left p (step.Broken n) → (26 ≤ n) × (n ≤ 28)
+step-number s bound left p n r = fault-number s p bound (8 - left) n p r
 
 module _ (s : List ℕ) (bound left p : ℕ) (l : left ≤ 7) where
   pub step-broken : (n : ℕ) → Reads s bound left p (step.Broken n) → refused n p ≡ visitEntry s (rules.fault s) left bound p
@@ -79,6 +92,9 @@ module _ (s : List ℕ) (bound left p : ℕ) (l : left ≤ 7) where
       let h : Sound s p bound (8 - left) = fault-sound s p bound (8 - left) (r .0) in
       let t : hasList s p ≡ true = r .1 in
       omega (arith, first-to s p bound (8 - left) h t, own-to s p bound (8 - left) h, depth-to s p bound (8 - left) h t, r .2, r .3)
+
+  pub step-reached : (f o : ℕ) → Reads s bound left p (step.List f o) → Reached s p bound (8 - left) → Reached s f o (8 - (left - 1))
+  step-reached f o r h = reached-below s bound left p l (step-in f o r .2) h f o (r .1) (r .2) (r .3)
 
   pub step-list : (f o : ℕ) → Reads s bound left p (step.List f o) → visitList s (visitEntry s (rules.fault s) (left - 1) o) (o - f) f ≡ visitEntry s (rules.fault s) left bound p
   step-list f o r =
@@ -147,27 +163,30 @@ pub root-in-full : (s : List ℕ) (first full : ℕ) → Volume s → first ≡ 
 root-in-full s first full v e f z = omega (arith, root-to s v)
 
 -- ---- reached headers
--- the search is what is left of it from p on, at some fuel that is enough
-pub record Path (s : List ℕ) (want p : ℕ) : Type 0 where
-  pub fuel : ℕ
-  pub enough : fullSize s - p ≤ fuel
-  pub same : isReached s want ≡ seek s want fuel p
-
 pub reach-start : (s : List ℕ) (first full : ℕ) → first ≡ firstRoot s → full ≡ fullSize s → (first ≡ full → ⊥) → IsReached s first
 reach-start s first full e f z =
     subst (IsReached s) (sym e) (record { bound = fullSize s; depth = 1; reached = root (λ y. z (e ∙ y ∙ sym f)) })
 
-pub path-start : (s : List ℕ) (want first full : ℕ) → first ≡ firstRoot s → full ≡ fullSize s → (first ≡ full → ⊥) → Path s want first
-path-start s want first full e f z = record {
-  fuel = fullSize s;
-  enough = omega arith;
-  same = is-seek s want (λ y. z (e ∙ y ∙ sym f)) ∙ ap (seek s want (fullSize s)) (sym e);
-}
-
 pub path-empty : (s : List ℕ) (want first full : ℕ) → first ≡ firstRoot s → full ≡ fullSize s → first ≡ full → false ≡ isReached s want
 path-empty s want first full e f z = sym (is-none s want (sym e ∙ z ∙ f))
 
+pub path-root : (s : List ℕ) (want first full : ℕ) → first ≡ firstRoot s → full ≡ fullSize s → (first ≡ full → ⊥) → seek s want full first ≡ isReached s want
+path-root s want first full e f z = rw (e, f) (sym (is-seek s want (λ y. z (e ∙ y ∙ sym f))))
+
+-- the search is what is left of it from p on, at some fuel that is enough
+pub record Path (s : List ℕ) (full want from p : ℕ) : Type 0 where
+  pub fuel : ℕ
+  pub enough : full - p ≤ fuel
+  pub same : seek s want full from ≡ seek s want fuel p
+
+pub path-all : (s : List ℕ) (full want from : ℕ) → Path s full want from from
+path-all s full want from = record { fuel = full; enough = omega arith; same = refl }
+
 module _ (s : List ℕ) (full : ℕ) (w : Walked s full) where
+  -- what is found from a reached header is reached
+  pub path-found : (want from : ℕ) → IsReached s from → seek s want full from ≡ true → true ≡ isReached s want
+  path-found want from r e = sym (reached-is s want (w .volume) (w .walked) (seek-reached s want full from r e))
+
   module _ (want p q : ℕ) (r : IsReached s p) (e : q ≡ towards s want p) (z : q ≡ 0 → ⊥) where
     pub reach-on : IsReached s q
     reach-on = subst (IsReached s) (sym e) (towards-reached s want p r (λ y. z (e ∙ y)))
@@ -175,24 +194,24 @@ module _ (s : List ℕ) (full : ℕ) (w : Walked s full) where
     pub reach-further : p < q
     reach-further = subst (λ (x : ℕ). p < x) (sym e) (towards-further s want p (r .bound) (r .depth) (sound s (w .volume) (w .walked) (r .reached)) (λ y. z (e ∙ y)))
 
-    pub path-on : Path s want p → (want ≡ p → ⊥) → Path s want q
-    path-on h d =
+    pub path-on : (from : ℕ) → Path s full want from p → (want ≡ p → ⊥) → Path s full want from q
+    path-on from h d =
         let in-full = reach-room s full w p r in
-        let some : 0 < h .fuel = omega (arith, h .enough, w .whole .is) in
+        let some : 0 < h .fuel = omega (arith, h .enough) in
         record {
           fuel = h .fuel - 1;
           enough = omega (arith, h .enough, reach-further, some);
           same = h .same ∙ seek-on s want (h .fuel) p some d (λ y. z (e ∙ y)) ∙ ap (seek s want (h .fuel - 1)) (sym e);
         }
 
-  module _ (want p : ℕ) (r : IsReached s p) (h : Path s want p) where
+  module _ (want from p : ℕ) (r : IsReached s p) (h : Path s full want from p) where
     some-fuel : 0 < h .fuel
-    some-fuel = let in-full = reach-room s full w p r in omega (arith, h .enough, w .whole .is)
+    some-fuel = let in-full = reach-room s full w p r in omega (arith, h .enough)
 
-    pub path-here : want ≡ p → true ≡ isReached s want
+    pub path-here : want ≡ p → true ≡ seek s want full from
     path-here e = sym (h .same ∙ seek-here s want (h .fuel) p some-fuel e)
 
-    pub path-none : (q : ℕ) → q ≡ towards s want p → q ≡ 0 → (want ≡ p → ⊥) → false ≡ isReached s want
+    pub path-none : (q : ℕ) → q ≡ towards s want p → q ≡ 0 → (want ≡ p → ⊥) → false ≡ seek s want full from
     path-none q e z d = sym (h .same ∙ seek-none s want (h .fuel) p some-fuel d (sym e ∙ z))
 
 -- ---- rule 29
@@ -251,9 +270,6 @@ module _ (s : List ℕ) (full : ℕ) (w : Walked s full) (bound left p : ℕ) (l
   pub here-next : (q : ℕ) → q ≡ next s p → (q ≡ 0 → ⊥) → (p < q) × (q < bound)
   here-next q e z = sound-next s bound (8 - left) p q here-sound e z
 
-  pub next-reached : (q : ℕ) → q ≡ next s p → (q ≡ 0 → ⊥) → Reached s q bound (8 - left)
-  next-reached q e z = subst (λ (x : ℕ). Reached s x bound (8 - left)) (sym e) (along r (λ y. z (e ∙ y)))
-
   pub link-broken : badLink s p ≡ true → refused 29 p ≡ visitEntry s (linkFault s) left bound p
   unfolding linkFault
   link-broken b = sym (entry-refused s (linkFault s) bound p left (8 - left) 29 p (omega arith) (rw b))
@@ -270,9 +286,7 @@ module _ (s : List ℕ) (full : ℕ) (w : Walked s full) (bound left p : ℕ) (l
     left-some = omega (arith, depth-to s p bound (8 - left) here-sound (k .0))
 
     pub list-reached : Reached s f o (8 - (left - 1))
-    list-reached =
-        let d : 8 - (left - 1) ≡ suc (8 - left) = omega (arith, left-some) in
-        rw (d, k .1, k .2) (inside r (list-descends s p (k .0)) (list-first s p (k .0)))
+    list-reached = reached-below s bound left p l left-some r f o (k .0) (k .1) (k .2)
 
     pub link-list : badLink s p ≡ false → visitList s (visitEntry s (linkFault s) (left - 1) o) (o - f) f ≡ visitEntry s (linkFault s) left bound p
     link-list b = rw (k .1, k .2) (sym (entry-list s (linkFault s) bound p left (8 - left) (omega arith) (omega (arith, left-some)) (link-fine b) (k .0)))

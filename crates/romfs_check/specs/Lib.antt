@@ -1,3 +1,4 @@
 pub mod Told
 pub mod Known
 pub mod Facts
+pub mod Marks

@@ -1,4 +1,5 @@
 -- What an answer of the check tells: number and place.
+use Prim.Native.Nat.{_≤_}
 use Rattle.romfs_rules.specs.Rules.{Verdict, accepted, refused}
 use Rattle.romfs_check.specs.declared.Fault.{Fault}
 use Rattle.romfs_check.specs.declared.Fault.the-variants as fault
@@ -13,3 +14,12 @@ toldFault (fault.Header n p) = refused n p
 abbrev pub told : CheckAnswer → Verdict
 told checks.Accepted = accepted
 told (checks.Refused f) = toldFault f
+
+-- each case of a fault holds the numbers of its own rules
+abbrev pub FaultFits : Fault → Type 0
+FaultFits (fault.Volume n) = (21 ≤ n) × (n ≤ 25)
+FaultFits (fault.Header n p) = (26 ≤ n) × (n ≤ 29)
+
+abbrev pub CheckFits : CheckAnswer → Type 0
+CheckFits checks.Accepted = Unit {0}
+CheckFits (checks.Refused f) = FaultFits f

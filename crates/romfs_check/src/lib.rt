@@ -5,14 +5,15 @@ ghost use Prim.Native.Nat.{_+_, _-_, _%_, _≤_, _<_, min};
 ghost use lib.Dec.{ltb, eqb};
 ghost use lib.ListN.{length};
 ghost use Rattle.romfs_rules.specs.Rules.{magic22, fault};
-ghost use Rattle.romfs_rules.specs.Check.{volume, visitList, visitEntry, walk, leads, towards, isReached, badLink, links, andThen};
+ghost use Rattle.romfs_rules.specs.Check.{volume, visitList, visitEntry, walk, leads, towards, seek, isReached, badLink, links, andThen};
 ghost use Rattle.romfs_rules.specs.Check as rules;
-ghost use Rattle.romfs_rules.specs.Reached.{Reached};
+ghost use Rattle.romfs_rules.specs.Reached.{Reached, IsReached};
 ghost use Rattle.romfs_rules.specs.Links.{linkFault};
 ghost use Rattle.romfs_rules.specs.Walked.{Volume};
 ghost use Rattle.romfs_headers.specs.Known.{Whole};
 ghost use Rattle.romfs_check.specs.Known.{Walked, Lies};
-ghost use Rattle.romfs_check.specs.Told.{told};
+ghost use Rattle.romfs_check.specs.Told.{told, CheckFits};
+ghost use Rattle.romfs_check.specs.Marks.{rowOf, markAt, markTo, Marked};
 use romfs_headers::Step;
 
 pub enum Fault {
@@ -59,7 +60,7 @@ fn summed(full: usize) -> usize
 }
 
 fn check_volume(image: &[u8]) -> CheckAnswer
-    ensures { λ r. ⌜ told r ≡ volume (now (image .entry)) ⌝ }
+    ensures { λ r. ⌜ (told r ≡ volume (now (image .entry))) × CheckFits r ⌝ }
 {
     if image.len() < 32 {
         return CheckAnswer::Refused(Fault::Volume(21));
@@ -80,16 +81,61 @@ fn check_volume(image: &[u8]) -> CheckAnswer
     CheckAnswer::Accepted
 }
 
+// ---- marks: the image is taken in 256 parts, and a part has eight marks, the first header of each depth in it, or 0
+
+// Where the marks of the part with an offset stand.
+fn row_of(full: usize, p: usize) -> usize
+    requires { ⌜ p < full ⌝ }
+    ensures { λ r. ⌜ (r ≡ rowOf full p) × (r + 8 ≤ 2048) ⌝ }
+{
+    p / (full / 256 + 1) * 8
+}
+
+// Marks a header, if it is the first of its depth in its part.
+fn mark(full: usize, p: usize, left: usize, marks: &mut [u32; 2048])
+    requires { ⌜ (p < full) × (full < 4294967296) × (left ≤ 7) ⌝ }
+    ensures { λ _. ⌜ now (marks .exit) ≡ markAt (now (marks .entry)) (rowOf full p + (7 - left)) p ⌝ }
+{
+    let i = row_of(full, p) + (7 - left);
+    if marks[i] == 0 {
+        marks[i] = p as u32;
+    }
+}
+
+// The mark of the least depth at or before the wanted offset, or 0. No header between them is less deep, so that the path
+// from the mark leads to each of them.
+fn mark_to(row: usize, want: usize, marks: &[u32; 2048]) -> usize
+    requires { ⌜ row + 8 ≤ 2048 ⌝ }
+    ensures { λ r. ⌜ r ≡ markTo (now (marks .entry)) row want ⌝ }
+{
+    let mut i: usize = 0;
+    while i < 8 {
+        let m = romfs_headers::wide(marks[row + i]);
+        if leads_to(m, want) {
+            return m;
+        }
+        i = i + 1;
+    }
+    0
+}
+
 // ---- the walk: rules 26 to 28
 
 // A list visits its entries, from its first header on.
-fn walk_list(image: &[u8], full: usize, at: usize, bound: usize, left: usize) -> CheckAnswer
-    requires { ⌜ Whole (now image) full × (at < bound) × (bound ≤ full) × (left ≤ 7) ⌝ }
-    ensures { λ r. ⌜ told r ≡ visitList (now (image .entry)) (visitEntry (now (image .entry)) (fault (now (image .entry))) left bound) (bound - at) at ⌝ }
+fn walk_list(
+    image: &[u8],
+    full: usize,
+    at: usize,
+    bound: usize,
+    left: usize,
+    marks: &mut [u32; 2048],
+) -> CheckAnswer
+    requires { ⌜ Whole (now image) full × (at < bound) × (bound ≤ full) × (left ≤ 7) × Reached (now image) at bound (8 - left) × Marked (now image) (now marks) ⌝ }
+    ensures { λ r. ⌜ (told r ≡ visitList (now (image .entry)) (visitEntry (now (image .entry)) (fault (now (image .entry))) left bound) (bound - at) at) × CheckFits r × Marked (now (image .entry)) (now (marks .exit)) ⌝ }
 {
     let mut p = at;
     loop {
-        match walk_entry(image, full, p, bound, left) {
+        match walk_entry(image, full, p, bound, left, marks) {
             CheckAnswer::Refused(f) => {
                 return CheckAnswer::Refused(f);
             }
@@ -105,26 +151,34 @@ fn walk_list(image: &[u8], full: usize, at: usize, bound: usize, left: usize) ->
 }
 
 // An entry, then its list.
-fn walk_entry(image: &[u8], full: usize, p: usize, bound: usize, left: usize) -> CheckAnswer
-    requires { ⌜ Whole (now image) full × (p < bound) × (bound ≤ full) × (left ≤ 7) ⌝ }
-    ensures { λ r. ⌜ told r ≡ visitEntry (now (image .entry)) (fault (now (image .entry))) left bound p ⌝ }
+fn walk_entry(
+    image: &[u8],
+    full: usize,
+    p: usize,
+    bound: usize,
+    left: usize,
+    marks: &mut [u32; 2048],
+) -> CheckAnswer
+    requires { ⌜ Whole (now image) full × (p < bound) × (bound ≤ full) × (left ≤ 7) × Reached (now image) p bound (8 - left) × Marked (now image) (now marks) ⌝ }
+    ensures { λ r. ⌜ (told r ≡ visitEntry (now (image .entry)) (fault (now (image .entry))) left bound p) × CheckFits r × Marked (now (image .entry)) (now (marks .exit)) ⌝ }
 {
+    mark(full, p, left, marks);
     match romfs_headers::read_entry(image, full, bound, left, p) {
         Step::Broken(n) => CheckAnswer::Refused(Fault::Header(n, p as u32)),
         Step::Leaf => CheckAnswer::Accepted,
-        Step::List(first, own) => walk_list(image, full, first, own, left - 1),
+        Step::List(first, own) => walk_list(image, full, first, own, left - 1, marks),
     }
 }
 
-fn check_walk(image: &[u8], full: usize) -> CheckAnswer
-    requires { ⌜ Whole (now image) full × Volume (now image) ⌝ }
-    ensures { λ r. ⌜ told r ≡ walk (now (image .entry)) ⌝ }
+fn check_walk(image: &[u8], full: usize, marks: &mut [u32; 2048]) -> CheckAnswer
+    requires { ⌜ Whole (now image) full × Volume (now image) × Marked (now image) (now marks) ⌝ }
+    ensures { λ r. ⌜ (told r ≡ walk (now (image .entry))) × CheckFits r × Marked (now (image .entry)) (now (marks .exit)) ⌝ }
 {
     let first = romfs_headers::first_root(image, full);
     if first == full {
         return CheckAnswer::Accepted;
     }
-    walk_list(image, full, first, full, 7)
+    walk_list(image, full, first, full, 7, marks)
 }
 
 // ---- reached headers
@@ -159,15 +213,12 @@ fn step_towards(image: &[u8], full: usize, want: usize, p: usize) -> usize
     0
 }
 
-// Whether a header is reached, by going down one path.
-pub fn is_reached(image: &[u8], full: usize, want: usize) -> bool
-    requires { ⌜ Walked (now image) full ⌝ }
-    ensures { λ r. ⌜ r ≡ isReached (now (image .entry)) want ⌝ }
+// Whether the path from a header leads to the wanted one.
+fn seek_from(image: &[u8], full: usize, from: usize, want: usize) -> bool
+    requires { ⌜ Walked (now image) full × IsReached (now image) from ⌝ }
+    ensures { λ r. ⌜ r ≡ seek (now (image .entry)) want full from ⌝ }
 {
-    let mut p = romfs_headers::first_root(image, full);
-    if p == full {
-        return false;
-    }
+    let mut p = from;
     loop {
         if want == p {
             return true;
@@ -180,16 +231,44 @@ pub fn is_reached(image: &[u8], full: usize, want: usize) -> bool
     }
 }
 
+// Whether a header is reached, by going down one path.
+pub fn is_reached(image: &[u8], full: usize, want: usize) -> bool
+    requires { ⌜ Walked (now image) full ⌝ }
+    ensures { λ r. ⌜ r ≡ isReached (now (image .entry)) want ⌝ }
+{
+    let first = romfs_headers::first_root(image, full);
+    if first == full {
+        return false;
+    }
+    seek_from(image, full, first, want)
+}
+
+// The same from a mark of the walk. What is not found so is sought from the root: of the links, the first bad one alone.
+fn is_reached_by(image: &[u8], full: usize, want: usize, marks: &[u32; 2048]) -> bool
+    requires { ⌜ Walked (now image) full × Marked (now image) (now marks) ⌝ }
+    ensures { λ r. ⌜ r ≡ isReached (now (image .entry)) want ⌝ }
+{
+    if want < full {
+        let from = mark_to(row_of(full, want), want, marks);
+        if from != 0 {
+            if seek_from(image, full, from, want) {
+                return true;
+            }
+        }
+    }
+    is_reached(image, full, want)
+}
+
 // ---- rule 29
 
-fn bad_link(image: &[u8], full: usize, p: usize) -> bool
-    requires { ⌜ Walked (now image) full × (p + 32 ≤ full) ⌝ }
+fn bad_link(image: &[u8], full: usize, p: usize, marks: &[u32; 2048]) -> bool
+    requires { ⌜ Walked (now image) full × (p + 32 ≤ full) × Marked (now image) (now marks) ⌝ }
     ensures { λ r. ⌜ r ≡ badLink (now (image .entry)) p ⌝ }
 {
     let k = romfs_headers::kind_of(image, p);
     let to = romfs_headers::info_of(image, p);
     if k == 0 {
-        if !is_reached(image, full, to) {
+        if !is_reached_by(image, full, to, marks) {
             return true;
         }
         return romfs_headers::kind_of(image, to) == 0;
@@ -201,7 +280,7 @@ fn bad_link(image: &[u8], full: usize, p: usize) -> bool
     if !romfs_headers::is_dots(image, full, n, p) {
         return false;
     }
-    !is_reached(image, full, to)
+    !is_reached_by(image, full, to, marks)
 }
 
 // The list of an entry: its first header and its bound.
@@ -229,13 +308,20 @@ fn below_entry(image: &[u8], full: usize, bound: usize, p: usize) -> Below
 }
 
 // The walk once more, for the links.
-fn links_list(image: &[u8], full: usize, at: usize, bound: usize, left: usize) -> CheckAnswer
-    requires { ⌜ Walked (now image) full × (left ≤ 7) × Reached (now image) at bound (8 - left) ⌝ }
-    ensures { λ r. ⌜ told r ≡ visitList (now (image .entry)) (visitEntry (now (image .entry)) (linkFault (now (image .entry))) left bound) (bound - at) at ⌝ }
+fn links_list(
+    image: &[u8],
+    full: usize,
+    at: usize,
+    bound: usize,
+    left: usize,
+    marks: &[u32; 2048],
+) -> CheckAnswer
+    requires { ⌜ Walked (now image) full × (left ≤ 7) × Reached (now image) at bound (8 - left) × Marked (now image) (now marks) ⌝ }
+    ensures { λ r. ⌜ (told r ≡ visitList (now (image .entry)) (visitEntry (now (image .entry)) (linkFault (now (image .entry))) left bound) (bound - at) at) × CheckFits r ⌝ }
 {
     let mut p = at;
     loop {
-        match links_entry(image, full, p, bound, left) {
+        match links_entry(image, full, p, bound, left, marks) {
             CheckAnswer::Refused(f) => {
                 return CheckAnswer::Refused(f);
             }
@@ -250,28 +336,35 @@ fn links_list(image: &[u8], full: usize, at: usize, bound: usize, left: usize) -
     }
 }
 
-fn links_entry(image: &[u8], full: usize, p: usize, bound: usize, left: usize) -> CheckAnswer
-    requires { ⌜ Walked (now image) full × (left ≤ 7) × Reached (now image) p bound (8 - left) ⌝ }
-    ensures { λ r. ⌜ told r ≡ visitEntry (now (image .entry)) (linkFault (now (image .entry))) left bound p ⌝ }
+fn links_entry(
+    image: &[u8],
+    full: usize,
+    p: usize,
+    bound: usize,
+    left: usize,
+    marks: &[u32; 2048],
+) -> CheckAnswer
+    requires { ⌜ Walked (now image) full × (left ≤ 7) × Reached (now image) p bound (8 - left) × Marked (now image) (now marks) ⌝ }
+    ensures { λ r. ⌜ (told r ≡ visitEntry (now (image .entry)) (linkFault (now (image .entry))) left bound p) × CheckFits r ⌝ }
 {
-    if bad_link(image, full, p) {
+    if bad_link(image, full, p, marks) {
         return CheckAnswer::Refused(Fault::Header(29, p as u32));
     }
     match below_entry(image, full, bound, p) {
         Below::Nothing => CheckAnswer::Accepted,
-        Below::List(first, own) => links_list(image, full, first, own, left - 1),
+        Below::List(first, own) => links_list(image, full, first, own, left - 1, marks),
     }
 }
 
-fn check_links(image: &[u8], full: usize) -> CheckAnswer
-    requires { ⌜ Walked (now image) full ⌝ }
-    ensures { λ r. ⌜ told r ≡ links (now (image .entry)) ⌝ }
+fn check_links(image: &[u8], full: usize, marks: &[u32; 2048]) -> CheckAnswer
+    requires { ⌜ Walked (now image) full × Marked (now image) (now marks) ⌝ }
+    ensures { λ r. ⌜ (told r ≡ links (now (image .entry))) × CheckFits r ⌝ }
 {
     let first = romfs_headers::first_root(image, full);
     if first == full {
         return CheckAnswer::Accepted;
     }
-    links_list(image, full, first, full, 7)
+    links_list(image, full, first, full, 7, marks)
 }
 
 // ---- requests
@@ -279,17 +372,18 @@ fn check_links(image: &[u8], full: usize) -> CheckAnswer
 // Rules 26 to 29, of an image whose volume header is right.
 fn check_headers(image: &[u8]) -> CheckAnswer
     requires { ⌜ Volume (now image) ⌝ }
-    ensures { λ r. ⌜ told r ≡ andThen (walk (now (image .entry))) (links (now (image .entry))) ⌝ }
+    ensures { λ r. ⌜ (told r ≡ andThen (walk (now (image .entry))) (links (now (image .entry)))) × CheckFits r ⌝ }
 {
     let full = romfs_headers::full_size(image);
-    match check_walk(image, full) {
+    let mut marks = [0u32; 2048];
+    match check_walk(image, full, &mut marks) {
         CheckAnswer::Refused(f) => CheckAnswer::Refused(f),
-        CheckAnswer::Accepted => check_links(image, full),
+        CheckAnswer::Accepted => check_links(image, full, &marks),
     }
 }
 
 pub fn check(image: &[u8]) -> CheckAnswer
-    ensures { λ r. ⌜ told r ≡ rules.check (now (image .entry)) ⌝ }
+    ensures { λ r. ⌜ (told r ≡ rules.check (now (image .entry))) × CheckFits r ⌝ }
 {
     match check_volume(image) {
         CheckAnswer::Refused(f) => CheckAnswer::Refused(f),

@@ -12,7 +12,7 @@ ghost use Rattle.romfs_rules.specs.Rules.{overBound, badName, badSum, badInfo, 
 ghost use Rattle.romfs_headers.specs.Known.{Whole, Head, stepOf};
 use spans::words::be32;
 
-fn wide(x: u32) -> usize
+pub fn wide(x: u32) -> usize
     ensures { λ r. ⌜ (r ≡ x) × (r < 4294967296) ⌝ }
 {
     x as usize

@@ -92,3 +92,11 @@ partOf s at (denied n p) = []
 -- that part of the image; an empty part where it is refused
 unfoldable pub content : List ℕ → ℕ → List ℕ
 content s p = partOf s (contentAt s p) (contentLength s p)
+
+-- where that part begins: at the padded name's end; at 0 where it is refused
+abbrev pub startOf : ℕ → Answer ℕ → ℕ
+startOf at (granted n) = at
+startOf at (denied n p) = 0
+
+unfoldable pub contentStart : List ℕ → ℕ → ℕ
+contentStart s p = startOf (contentAt s p) (contentLength s p)

@@ -37,7 +37,7 @@ visitAll s test =
 unfoldable pub walk : List ℕ → Verdict
 walk s = visitAll s (fault s)
 
--- whether an offset is a header's at or before want
+-- whether an offset is not 0 and at most want
 unfoldable pub leads : ℕ → ℕ → Bool
 leads to want = not (eqb to 0) && leb to want
 

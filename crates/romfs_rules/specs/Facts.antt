@@ -1,7 +1,7 @@
 -- What a sound header gives: its end, its next and its first header lie where the nesting has them.
 use Prim.Native.Nat.{ℕ, _+_, _%_, _≤_, _<_}
 use mathlib.Core.Path.{_≡_, refl}
-use mathlib.Core.Logic.{_≢_}
+use mathlib.Core.Logic.{_≢_, _⊎_, inl, inr}
 use mathlib.Core.Bool.{Bool, true, false, not, cond, _&&_, _||_}
 use mathlib.Core.List.{List}
 use native.Mathlib.Omega.{arith}
@@ -14,6 +14,10 @@ use Rattle.romfs_rules.specs.Rules.{accepted, refused, overBound, badHea
 use Rattle.romfs_rules.specs.Reached.{Sound}
 
 -- ---- Booleans
+pub or-yes : (a b : Bool) → (a || b) ≡ true → (a ≡ true) ⊎ (b ≡ true)
+or-yes true b e = inl refl
+or-yes false b e = inr e
+
 pub and-no : (a b : Bool) → (a && b) ≡ false → a ≡ true → b ≡ false
 and-no true b e t = e
 and-no false b e t = absurd (let z : _≡_ {A = ℕ} 0 1 = cc in omega arith)
@@ -28,6 +32,11 @@ and-yes-r false b e = absurd (let z : _≡_ {A = ℕ} 0 1 = cc in omega arith)
 
 pub both : (a b : Bool) → a ≡ true → b ≡ true → (a && b) ≡ true
 both a b e f = rw (e, f)
+
+pub either : (a b : Bool) → (a ≡ true) ⊎ (b ≡ true) → (a || b) ≡ true
+either true b h = refl
+either false b (inl e) = absurd (let z : _≡_ {A = ℕ} 0 1 = cc in omega arith)
+either false b (inr e) = e
 
 pub not-eqb : (a b : ℕ) → a ≢ b → not (eqb a b) ≡ true
 not-eqb a b h = rw (ne-eqb a b h)
@@ -157,3 +166,13 @@ place-by p n q false false false e = absurd (let z : _≡_ {A = ℕ} 0 1 = cc in
 pub fault-place : (s : List ℕ) (p bound depth n q : ℕ) → fault s bound depth p ≡ refused n q → q ≡ p
 unfolding fault
 fault-place s p bound depth n q e = place-by p n q (badHeader s bound p) (badNesting s bound p) (tooDeep s depth p) e
+
+number-by : (p n q : ℕ) (a b c : Bool) → cond a (refused 26 p) (cond b (refused 27 p) (cond c (refused 28 p) accepted)) ≡ refused n q → (26 ≤ n) × (n ≤ 28)
+number-by p n q true b c e = let f : n ≡ 26 = cc in omega arith
+number-by p n q false true c e = let f : n ≡ 27 = cc in omega arith
+number-by p n q false false true e = let f : n ≡ 28 = cc in omega arith
+number-by p n q false false false e = absurd (let z : _≡_ {A = ℕ} 0 1 = cc in omega arith)
+
+pub fault-number : (s : List ℕ) (p bound depth n q : ℕ) → fault s bound depth p ≡ refused n q → (26 ≤ n) × (n ≤ 28)
+unfolding fault
+fault-number s p bound depth n q e = number-by p n q (badHeader s bound p) (badNesting s bound p) (tooDeep s depth p) e

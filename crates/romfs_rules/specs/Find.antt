@@ -26,7 +26,7 @@ pub data InList (s : List ℕ) (p : ℕ) : ℕ → Type 0 where
   here : InList s p p
   on : {q : ℕ} → InList s p q → next s q ≢ 0 → InList s p (next s q)
 
--- the first entry of the name want in a list: no lower one has that name
+-- the first entry of the name want in a list: no lower one has that name (the offsets of a list rise: rises, below)
 pub record FirstMatch (s want : List ℕ) (first p : ℕ) : Type 0 where
   pub entry : InList s first p
   pub named : name s p ≡ want
@@ -79,10 +79,12 @@ module _ (s : List ℕ) (v : Volume s) (w : walk s ≡ accepted) where
   step : (p : ℕ) → IsReached s p → next s p ≢ 0 → IsReached s (next s p)
   step p r z = record { bound = r .bound; depth = r .depth; reached = along (r .reached) z }
 
-  further : (p : ℕ) → IsReached s p → next s p ≢ 0 → p < next s p
+  -- the next entry of a list lies further on
+  pub further : (p : ℕ) → IsReached s p → next s p ≢ 0 → p < next s p
   further p r z = omega (arith, room s p, next-from s p (r .bound) (r .depth) (sound s v w (r .reached)) z)
 
-  rises : (p : ℕ) {q : ℕ} → IsReached s p → InList s p q → (p ≤ q) × IsReached s q
+  -- The offsets of a list rise: no entry from p on lies below p. So the lowest match is the first in the list.
+  pub rises : (p : ℕ) {q : ℕ} → IsReached s p → InList s p q → (p ≤ q) × IsReached s q
   rises p r here = (omega arith, r)
   rises p r (on {q = x} l z) = let k = rises p r l in (omega (arith, k .0, further x (k .1) z), step x (k .1) z)
 

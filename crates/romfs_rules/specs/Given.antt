@@ -1,21 +1,22 @@
--- What an accepted image gives to the requests: where a list begins, and where a content lies.
+-- For find and content on an accepted image: a directory's first header is reached, a granted content lies inside F. (What a verdict says is Given of Theorems.)
 use Prim.Native.Nat.{ℕ, suc, _+_, _≤_}
 use mathlib.Core.Path.{_≡_, refl, sym, subst, _∙_}
-use mathlib.Core.Logic.{_≢_, ⊎-elim}
+use mathlib.Core.Logic.{_≢_, _⊎_, inl, inr, ⊎-elim, _↔_}
 use mathlib.Core.Bool.{Bool, true, false, cond, _&&_}
 use mathlib.Core.List.{List}
 use native.Mathlib.Omega.{arith}
 use native.Mathlib.Decide.{ℕ-discrete}
 use borrow.Author.Tests.{eq-eqb, ne-eqb, eqb-true}
+use lib.ListN.{length}
 use lib.Dec.{eqb}
 use Rattle.romfs_rules.specs.Layout.{fullSize, firstRoot, kind, info, size, own, contentAt, endOf, isDots, descends, hasData}
 use Rattle.romfs_rules.specs.Rules.{Verdict, accepted, refused}
 use Rattle.romfs_rules.specs.Reached.{root, inside, IsReached, Sound}
 use Rattle.romfs_rules.specs.Check.{isReached, check}
 use Rattle.romfs_rules.specs.Answers.{granted, denied, checked, firstOf, isDirectory, measured, contentLength}
-use Rattle.romfs_rules.specs.Facts.{and-yes-l, and-yes-r, ends}
+use Rattle.romfs_rules.specs.Facts.{or-yes, and-yes-l, and-yes-r, ends}
 use Rattle.romfs_rules.specs.Lowest.{yes-no}
-use Rattle.romfs_rules.specs.Walked.{volume-of, reached-in}
+use Rattle.romfs_rules.specs.Walked.{volume-of, full-to, reached-in}
 use Rattle.romfs_rules.specs.Seek.{is-reached}
 use Rattle.romfs_rules.specs.Theorems.{check-accepted, check-parts}
 
@@ -60,12 +61,22 @@ first-reached s dir a h f =
     ]
 
 -- ---- content
--- a granted content lies in the image
+-- types 2 and 3 have content
+pub data-kind : (k : ℕ) → (hasData k ≡ true) ↔ ((k ≡ 2) ⊎ (k ≡ 3))
+unfolding hasData
+data-kind k = (
+  λ h. ⊎-elim (λ e. inl (eqb-true k 2 e)) (λ e. inr (eqb-true k 3 e)) (or-yes (eqb k 2) (eqb k 3) h),
+  λ h. ⊎-elim (λ e. rw e) (λ e. rw e) h,
+)
+
+-- a granted content: of n bytes, of a reached header of type 2 or 3, inside F, which is inside the image
 pub record Content (s : List ℕ) (p n : ℕ) : Type 0 where
   pub sound : check s ≡ accepted
   pub reached : IsReached s p
+  pub typed : (kind s p ≡ 2) ⊎ (kind s p ≡ 3)
   pub is : n ≡ size s p
   pub inside : contentAt s p + n ≤ fullSize s
+  pub full : fullSize s ≤ length s
 
 size-in : (s : List ℕ) (p b d : ℕ) → Sound s p b d → contentAt s p + size s p ≤ b
 unfolding endOf
@@ -86,6 +97,8 @@ content-in s p n e =
     record {
       sound = g .0;
       reached = r;
+      typed = data-kind (kind s p) .0 (and-yes-r (isReached s p) (hasData (kind s p)) (g .1));
       is = g .2;
       inside = omega (arith, g .2, size-in s p (r .bound) (r .depth) (check-accepted s .0 (g .0) .sound (r .reached)));
+      full = full-to s (volume-of s (parts .0));
     }

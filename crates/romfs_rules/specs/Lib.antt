@@ -12,4 +12,5 @@ pub mod Links
 pub mod Theorems
 pub mod Given
 pub mod Find
+pub mod Answered
 pub mod Past

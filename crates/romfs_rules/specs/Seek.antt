@@ -98,7 +98,7 @@ towards-further s want p b d h z = ⊎-elim next-way (λ n. ⊎-elim (λ e. ⊎-
 
 -- ---- what it finds is reached
 module _ (s : List ℕ) (want : ℕ) where
-  seek-reached : (f p : ℕ) → IsReached s p → seek s want f p ≡ true → IsReached s want
+  pub seek-reached : (f p : ℕ) → IsReached s p → seek s want f p ≡ true → IsReached s want
   unfolding seek
   seek-reached zero p r e = absurd (true-false refl (sym e))
   seek-reached (suc f) p r e =

@@ -58,6 +58,6 @@ DoneFits (done.Inconsistent f) = FaultFits f
 
 abbrev pub EntryFits : Entry → Type 0
 EntryFits entry.Free = Unit {0}
-EntryFits (entry.File len i z) = Unit {0}
+EntryFits (entry.File len i z) = len ≤ 16
 EntryFits (entry.Refused num) = 8 ≤ num
 EntryFits (entry.Inconsistent f) = FaultFits f

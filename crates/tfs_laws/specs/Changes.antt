@@ -108,7 +108,7 @@ refused-keeps B img (writes h o bs) t = refused-core (check B img) img _ (transf
 pub record Changed (B : ℕ) (img : List ℕ) (c : Change) : Type 0 where
   -- "The volume stays consistent"
   pub consistent : Consistent B (perform B img c .image)
-  -- "with the effect they give and no other": one name changes, every other keeps its size and bytes
+  -- what stands under one name changes, and every other name keeps its size and bytes; Touches.antt says which bytes of the image change
   pub contents : (j : List ℕ) → contents B (perform B img c .image) j ≡ change (nameOn B (view B img) c) (effectOf c) (contents B img) j
 
 module _ (B : ℕ) (sz : BlockSize B) where

@@ -91,7 +91,7 @@ module _ (B : ℕ) (sz : BlockSize B) (img : List ℕ) (ok : Consistent B img) (
   pub length-bs : length bs ≡ need B z
   length-bs = length-drop 1 cs ∙ omega (arith, length-cs)
 
-  at-bs : (m : ℕ) → getD bs m 0 ≡ getD cs (suc m) 0
+  pub at-bs : (m : ℕ) → getD bs m 0 ≡ getD cs (suc m) 0
   at-bs m = getD-drop 1 cs m 0 ∙ ap (λ (x : ℕ). getD cs x 0) (omega arith)
 
   few : need B z ≤ numbers B
@@ -139,7 +139,7 @@ module _ (B : ℕ) (sz : BlockSize B) (img : List ℕ) (ok : Consistent B img) (
   length-a0 : length a0 ≡ length img
   length-a0 = length-storeAll B (zeroStores B bs) img fits0
 
-  room-inode : 4 * (1 + length bs) ≤ B
+  pub room-inode : 4 * (1 + length bs) ≤ B
   room-inode = omega (arith, few, length-bs, sz .large)
 
   fits1 : Fits B (length img) lasts
@@ -164,14 +164,14 @@ module _ (B : ℕ) (sz : BlockSize B) (img : List ℕ) (ok : Consistent B img) (
   long′ = ap length new-is ∙ length-storeAll B lasts a0 fits-a0 ∙ length-a0
 
   -- a block that was not chosen, and is neither 1 nor 2
-  kept : (b : ℕ) → (In b cs → ⊥) → b ≢ 1 → b ≢ 2 → block B new b ≡ block B img b
+  pub kept : (b : ℕ) → (In b cs → ⊥) → b ≢ 1 → b ≢ 2 → block B new b ≡ block B img b
   kept b d d1 d2 =
       ap (λ (x : List ℕ). block B x b) new-is
       ∙ stored-away B lasts a0 b fits-a0 ((λ e. d (subst (λ (x : ℕ). In x cs) (sym e) (at-in cs 0 (omega (arith, length-cs))))), (d1, (d2, tt)))
       ∙ stored-away B (zeroStores B bs) img b fits0
       (zero-away B bs b (λ m h e. d (subst (λ (x : ℕ). In x cs) (sym (at-bs m) ∙ sym e) (at-in cs (suc m) (omega (arith, length-cs, length-bs))))))
 
-  new-inode : block B new i ≡ ino
+  pub new-inode : block B new i ≡ ino
   new-inode =
       ap (λ (x : List ℕ). block B x i) new-is
       ∙ stored-first B (store i ino) (store 1 map′ ∷ store 2 dir′ ∷ []) a0 fits-a0 ((λ e. omega (arith, first .inside .low)), ((λ e. omega (arith, first .inside .low)), tt))
@@ -199,7 +199,7 @@ module _ (B : ℕ) (sz : BlockSize B) (img : List ℕ) (ok : Consistent B img) (
       ∙ block-same B a2 2 dir′ (fits1 .1 .1 .1 .1 .0) (subst (λ (n : ℕ). 2 * B + B ≤ n) (sym l) (fits1 .1 .1 .1 .1 .1 .0))
 
   -- "all content blocks wholly zero"
-  new-zero : (m : ℕ) → m < length bs → block B new (getD bs m 0) ≡ zeros B
+  pub new-zero : (m : ℕ) → m < length bs → block B new (getD bs m 0) ≡ zeros B
   new-zero m h =
       let p : Picked B v (getD bs m 0) = at-b m h in
       ap (λ (x : List ℕ). block B x (getD bs m 0)) new-is
@@ -337,11 +337,11 @@ module _ (B : ℕ) (sz : BlockSize B) (img : List ℕ) (ok : Consistent B img) (
   pub cs-mapped : Mapped (length (v .map)) cs
   cs-mapped = mapped-all cs (length (v .map)) (λ b p. omega (arith, map-inside B sz img b (picked b p .inside .high), length-map B img (ok .long)))
 
-  bit-in : (b : ℕ) → In b cs → T (mapBit (v′ .map) b)
+  pub bit-in : (b : ℕ) → In b cs → T (mapBit (v′ .map) b)
   bit-in b p =
       subst T (sym (ap (λ (m : List ℕ). mapBit m b) bits-is ∙ bits-set 1 (omega arith) cs (v .map) cs-mapped b p)) tt
 
-  bit-out : (b : ℕ) → (In b cs → ⊥) → mapBit (v′ .map) b ≡ mapBit (v .map) b
+  pub bit-out : (b : ℕ) → (In b cs → ⊥) → mapBit (v′ .map) b ≡ mapBit (v .map) b
   bit-out b d = ap (λ (m : List ℕ). mapBit m b) bits-is ∙ bits-kept 1 (omega arith) cs (v .map) cs-mapped b d
 
   -- an owner in the old volume is in another slot

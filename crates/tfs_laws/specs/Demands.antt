@@ -1,16 +1,19 @@
 -- Demands 1 and 2 at the block size 512: one record and one claim for each sentence.
--- Each file that is named here proves its law over any block size. Laws.antt has the laws of demand 3.
+-- Each file that is named here proves its law over B; most of them want a BlockSize, 512 or more and whole 32-bit words.
+-- Laws.antt has the laws of demand 3.
 use mathlib.Core.Path.{_≡_, refl, sym, ap, ap₂, _∙_, subst}
 use mathlib.Core.Logic.{_↔_}
 use mathlib.Core.Bool.{not}
 use mathlib.Core.Option.{none}
-use Prim.Native.Nat.{ℕ, _+_, _*_, _≤_}
-use mathlib.Core.List.{List}
+use Prim.Native.Nat.{ℕ, _+_, _-_, _*_, _/_, _≤_, _<_}
+use mathlib.Core.List.{List, [], _∷_, _++_}
 use native.Mathlib.Omega.{arith}
 use lib.ListN.{length, getD}
 use lib.Dec.{T}
-use Rattle.tfs_rules.specs.Layout.{blocks, labelAllowed}
-use Rattle.tfs_rules.specs.View.{view, freeBlocks, contents}
+use Rattle.lists.specs.Name.{zeros}
+use Rattle.lists.specs.Bits.{withBit}
+use Rattle.tfs_rules.specs.Layout.{slots, numbers, maxSize, need, blocks, block, setBit, setBits, labelAllowed, nameAllowed}
+use Rattle.tfs_rules.specs.View.{view, size, freeBlocks, contents}
 use Rattle.tfs_rules.specs.Check.{Verdict, consistent, broken, check}
 use Rattle.tfs_rules.specs.Consistent.{Consistent, FirstBroken}
 use Rattle.tfs_rules.specs.CheckMeans.{check-means, check-breaks}
@@ -18,13 +21,43 @@ use Rattle.tfs_rules.specs.Requests.{Answer, done, value, refused, granted, che
 use Rattle.tfs_rules.specs.Total.{inodeCount, contentCount, adds-up}
 use Rattle.tfs_facts.specs.Views.{view-n}
 use Rattle.tfs_laws.specs.Changes.{Change, creates, removes, writes, perform, refused-keeps, Changed, changed, stays-consistent}
-use Rattle.tfs_laws.specs.Formats.{format-refused, format-grants, format-consistent, format-empty, format-past, format-length}
+use Rattle.tfs_laws.specs.Formats.{format-refused, format-grants, format-consistent, format-empty, format-past, format-length, format-head, format-map, format-directory}
 use Rattle.tfs_laws.specs.Reads.{ReadLaw, read-law, read-refused}
 use Rattle.tfs_laws.specs.Handles.{Means, HandleRefused, open-means, open-number, removed-refused, created-handle, KeptHandle, kept-handle}
 use Rattle.tfs_laws.specs.Kept.{KeptLaw, create-kept, remove-kept, write-kept}
 use Rattle.tfs_laws.specs.Tail.{TailKept, tail-kept, SameVolume, TailLaw, tail-unread}
+use Rattle.tfs_laws.specs.Grants.{Stands, LabelRule, NameRule, label-allowed, name-allowed, FormatRule, format-rule, GrantLaw, grants, CreateGranted, create-grants}
+use Rattle.tfs_laws.specs.Touches.{RemoveTouch, remove-touches, CreateTouch, create-touches}
+use Rattle.tfs_laws.specs.Rooms.{removed-room, created-room, written-room}
+use Rattle.tfs_laws.specs.HandleSteps.{MeansFile, means-file, afterAll, StepLaw, step-law, HandlesLaw, handles-law}
 use Rattle.tfs_laws.specs.Ignored.{SameRead, IgnoredLaw, ignored}
+use Rattle.tfs_laws.specs.IgnoredSteps.{same-after-all}
 use Rattle.tfs_facts.specs.Sizes.{size-512}
+
+-- ---- the numbers of the layout
+-- "N = the smaller of 4096 and image length divided by 512, rounded down"; 25 slots; 127 block numbers; "Largest file 65,024 bytes"
+pub record NumberLaw (img : List ℕ) : Type 0 where
+  pub large : 2097152 ≤ length img → blocks 512 img ≡ 4096
+  pub small : length img ≤ 2097152 → blocks 512 img ≡ length img / 512
+  pub directory : slots 512 ≡ 25
+  pub inode : numbers 512 ≡ 127
+  pub file : maxSize 512 ≡ 65024
+  -- ⌈size/512⌉: enough blocks, and no block more
+  pub enough : (z : ℕ) → z ≤ need 512 z * 512
+  pub tight : (z : ℕ) → need 512 z * 512 < z + 512
+
+pub number-law : (img : List ℕ) → NumberLaw img
+unfolding blocks need
+number-law img =
+    record {
+      large = λ h. omega arith;
+      small = λ h. omega arith;
+      directory = refl;
+      inode = refl;
+      file = refl;
+      enough = λ z. omega arith;
+      tight = λ z. omega arith;
+    }
 
 -- ---- demand 1
 -- "Every request but format refuses a volume that breaks the rules, with the first fault and its place",
@@ -53,6 +86,22 @@ fault-law img num p first =
       on-list = λ s. rw e;
       on-free = rw e;
     }
+
+-- so a volume that is not consistent has a first fault, and every request but format refuses it with that fault and its place
+pub record FaultyLaw (img : List ℕ) : Type 0 where
+  pub rule : ℕ
+  pub place : ℕ
+  pub first : FirstBroken 512 img rule place
+  pub refusals : FaultLaw img rule place
+
+pub faulty-law : (img : List ℕ) → (Consistent 512 img → ⊥) → FaultyLaw img
+faulty-law img bad = go (check 512 img) refl
+  where
+    go : (x : Verdict) → check 512 img ≡ x → FaultyLaw img
+    go consistent e = absurd (bad (check-means 512 size-512 img .0 e))
+    go (broken num p) e =
+        let first : FirstBroken 512 img num p = check-breaks 512 size-512 img num p .0 e in
+        record { rule = num; place = p; first = first; refusals = fault-law img num p first }
 
 -- "A refused request changes no byte of the image or of any buffer"
 pub record RefusalLaw (img : List ℕ) : Type 0 where
@@ -107,6 +156,27 @@ check-law img =
           ((λ e. says num p .0 (told-broken (check 512 img) num p .0 e)), λ first. told-broken (check 512 img) num p .1 (says num p .1 first));
     }
 
+-- "On a consistent volume every request is granted exactly when the written .. rules grant it":
+-- each answer of each request is given exactly in the case that its table names; check has CheckLaw, free bytes TotalLaw
+pub grant-law : (img : List ℕ) → Consistent 512 img → GrantLaw 512 img
+grant-law img ok = grants 512 size-512 img ok
+
+-- format's table, of any image
+pub format-answers : (img label : List ℕ) (a : Answer) → (format 512 img label .answer ≡ a) ↔ FormatRule 512 img label a
+format-answers img label = format-rule 512 img label
+
+-- create is granted exactly when all its tests are passed
+pub create-law : (img : List ℕ) → Consistent 512 img → (nm : List ℕ) (z : ℕ) → T (granted (create 512 img nm z .answer)) ↔ CreateGranted 512 (view 512 img) nm z
+create-law img ok nm z = create-grants 512 size-512 img ok nm z
+
+-- which names requests take, and which format takes as the volume's
+pub record NameLaw (nm : List ℕ) : Type 0 where
+  pub name : T (nameAllowed nm) ↔ NameRule nm
+  pub label : T (labelAllowed nm) ↔ LabelRule nm
+
+pub name-law : (nm : List ℕ) → NameLaw nm
+name-law nm = record { name = name-allowed nm; label = label-allowed nm }
+
 -- "The volume stays consistent", and a granted request changes what stands under one name:
 -- every other name keeps its size and bytes
 pub record EffectLaw (img : List ℕ) : Type 0 where
@@ -116,14 +186,32 @@ pub record EffectLaw (img : List ℕ) : Type 0 where
 pub effect-law : (img : List ℕ) → Consistent 512 img → EffectLaw img
 effect-law img ok = record { stays = stays-consistent 512 size-512 img ok; changes = changed 512 size-512 img ok }
 
+-- "with the effect they give and no other": what create and remove set in the image, and that every other byte and bit stays;
+-- of write see law-writes in Laws.antt
+pub record TouchLaw (img : List ℕ) : Type 0 where
+  pub created : (nm : List ℕ) (z h : ℕ) → create 512 img nm z .answer ≡ value h → (s : ℕ) × (cs : List ℕ) × CreateTouch 512 img (create 512 img nm z .image) nm z h s cs
+  pub removed : (nm : List ℕ) (s : ℕ) → Stands 512 (view 512 img) nm s → T (granted (remove 512 img nm .answer)) → RemoveTouch 512 img (remove 512 img nm .image) s
+
+pub touch-law : (img : List ℕ) → Consistent 512 img → TouchLaw img
+touch-law img ok = record { created = create-touches 512 size-512 img ok; removed = remove-touches 512 size-512 img ok }
+
 -- format grants every image of 1,536 bytes or more and every allowed name,
--- and leaves a consistent volume in which no name stands; every byte from 1,536 on and the length are as before
+-- and leaves a consistent volume in which no name stands; every byte from 1,536 on and the length are as before.
+-- "Zeros all of blocks 0 to 2 ..; sets magic, name and map bits 0, 1, 2": the bytes of the three blocks
 pub record FormatLaw (img label : List ℕ) : Type 0 where
   pub answer : format 512 img label .answer ≡ done
   pub consistent : Consistent 512 (format 512 img label .image)
   pub empty : (nm : List ℕ) → contents 512 (format 512 img label .image) nm ≡ none
+  pub head : block 512 (format 512 img label .image) 0 ≡ 0 ∷ 0 ∷ 14 ∷ 161 ∷ (label ++ zeros (508 - length label))
+  pub map : block 512 (format 512 img label .image) 1 ≡ 0 ∷ 0 ∷ 0 ∷ 7 ∷ zeros 508
+  pub directory : block 512 (format 512 img label .image) 2 ≡ zeros 512
   pub past : (q : ℕ) → 1536 ≤ q → getD (format 512 img label .image) q 0 ≡ getD img q 0
   pub long : length (format 512 img label .image) ≡ length img
+
+-- bits 0, 1, 2 of the first word
+three-marked : setBits (zeros 512) 1 (0 ∷ 1 ∷ 2 ∷ []) ≡ 0 ∷ 0 ∷ 0 ∷ 7 ∷ zeros 508
+unfolding setBit withBit
+three-marked = refl
 
 pub format-law : (img label : List ℕ) → 1536 ≤ length img → T (labelAllowed label) → FormatLaw img label
 format-law img label h t =
@@ -133,6 +221,9 @@ format-law img label h t =
       answer = e;
       consistent = format-consistent size-512 img label g;
       empty = format-empty size-512 img label g;
+      head = format-head size-512 img label g;
+      map = format-map size-512 img label g ∙ three-marked;
+      directory = format-directory size-512 img label g;
       past = format-past size-512 img label;
       long = format-length size-512 img label;
     }
@@ -162,6 +253,18 @@ handle-law img ok =
           (kept-handle 512 size-512 img ok nm other z h g c);
     }
 
+-- what a handle means, in plain facts, and over one request
+pub record HandleStepLaw (img : List ℕ) : Type 0 where
+  pub means : (h : ℕ) (nm : List ℕ) → Means 512 (view 512 img) h nm ↔ MeansFile 512 (view 512 img) h nm
+  pub step : StepLaw 512 img
+
+pub handle-step-law : (img : List ℕ) → Consistent 512 img → HandleStepLaw img
+handle-step-law img ok = record { means = means-file 512 (view 512 img) (ok .sound); step = step-law 512 size-512 img ok }
+
+-- and over any number of requests out of create, remove and write, refused ones included
+pub handle-list-law : (img : List ℕ) → Consistent 512 img → (cs : List Change) → HandlesLaw 512 img cs
+handle-list-law img ok cs = handles-law 512 size-512 img ok cs
+
 -- "ignored and kept": create, remove and write keep block 0, bytes 500..511 of block 2 and the map's bits from N on
 pub record KeepLaw (img : List ℕ) : Type 0 where
   pub created : (nm : List ℕ) (z : ℕ) → KeptLaw 512 img (create 512 img nm z .image)
@@ -174,6 +277,10 @@ kept-law img = record { created = create-kept size-512 img; removed = remove-kep
 -- the rest of block 0, those bytes and those bits have no say in any answer, nor in what read gives
 pub ignored-law : (a b : List ℕ) → SameRead 512 a b → IgnoredLaw 512 a b
 ignored-law a b same = ignored 512 size-512 a b same
+
+-- and what create, remove and write leave of two such images differs in no more, however many there are
+pub ignored-list-law : (a b : List ℕ) → SameRead 512 a b → (cs : List Change) → SameRead 512 (afterAll 512 a cs) (afterAll 512 b cs)
+ignored-list-law a b same cs = same-after-all 512 size-512 a b same cs
 
 -- "Bytes from 512·N on are never read or changed"
 pub record BeyondLaw (img : List ℕ) : Type 0 where
@@ -195,3 +302,13 @@ total-law img ok =
       bytes = ap (λ (x : Verdict). checked x (value (512 * freeBlocks (view 512 img)))) (check-means 512 size-512 img .1 ok);
       total = adds-up 512 size-512 img ok ∙ view-n 512 img;
     }
+
+-- "Room freed by remove counts for 12 at once"; create takes 1 + ⌈size/512⌉ blocks; write takes none
+pub record RoomLaw (img : List ℕ) : Type 0 where
+  pub removed : (nm : List ℕ) (s : ℕ) → Stands 512 (view 512 img) nm s → T (granted (remove 512 img nm .answer)) → freeBlocks (view 512 (remove 512 img nm .image)) ≡ freeBlocks (view 512 img) + (1 + need 512 (size (view 512 img) s))
+  pub created : (nm : List ℕ) (z : ℕ) → T (granted (create 512 img nm z .answer)) → freeBlocks (view 512 (create 512 img nm z .image)) + (1 + need 512 z) ≡ freeBlocks (view 512 img)
+  pub written : (h o : ℕ) (buf : List ℕ) → freeBlocks (view 512 (write 512 img h o buf .image)) ≡ freeBlocks (view 512 img)
+
+pub room-law : (img : List ℕ) → Consistent 512 img → RoomLaw img
+room-law img ok =
+    record { removed = removed-room 512 size-512 img ok; created = created-room 512 size-512 img ok; written = written-room 512 size-512 img ok }

@@ -16,7 +16,7 @@ use Rattle.lists.specs.Name.{zeros, padTo}
 use Rattle.lists.specs.Part.{part, getD-part}
 use Rattle.lists.specs.Word.{word, bytes4, word-bytes4}
 use Rattle.lists.specs.Bits.{bitOf}
-use Rattle.tfs_rules.specs.Layout.{BlockSize, slots, magic, volumeName, mapByte, mapBit, setBits, slot, slotFree, labelAllowed, sameName}
+use Rattle.tfs_rules.specs.Layout.{BlockSize, slots, block, magic, volumeName, mapByte, mapBit, setBits, slot, slotFree, labelAllowed, sameName}
 use Rattle.tfs_rules.specs.View.{View, view, free, name, slotOf, contents}
 use Rattle.tfs_rules.specs.Check.{tooShort}
 use Rattle.tfs_rules.specs.Consistent.{File, Sound, Consistent}
@@ -226,3 +226,24 @@ module _ {B : ℕ} (size : BlockSize B) (img label : List ℕ) where
   pub format-length : length (format B img label .image) ≡ length img
   format-length =
       by-format B img label (λ o. length (o .image) ≡ length img) (λ _. refl) (λ _. refl) (λ h t. formatted-length B size img label h)
+
+  -- block 0: magic and name, "then zeros"
+  pub format-head : T (granted (format B img label .answer)) → block B (format B img label .image) 0 ≡ bytes4 magic ++ (label ++ zeros (B - 4 - length label))
+  format-head =
+      by-format B img label (λ o. T (granted (o .answer)) → block B (o .image) 0 ≡ bytes4 magic ++ (label ++ zeros (B - 4 - length label))) (λ _ g. absurd g) (λ _ g. absurd g)
+      (λ h t _.
+      sym (view-head B (formatted B size img label h))
+      ∙ formatted-head B size img label h
+      ∙ ap (λ (x : List ℕ). bytes4 magic ++ (x ++ zeros (B - 4 - length label))) (take-all (B - 4) label (omega (arith, size .large, label-short label t))))
+
+  -- block 1: "map bits 0, 1, 2"
+  pub format-map : T (granted (format B img label .answer)) → block B (format B img label .image) 1 ≡ setBits (zeros B) 1 (0 ∷ 1 ∷ 2 ∷ [])
+  format-map =
+      by-format B img label (λ o. T (granted (o .answer)) → block B (o .image) 1 ≡ setBits (zeros B) 1 (0 ∷ 1 ∷ 2 ∷ [])) (λ _ g. absurd g) (λ _ g. absurd g)
+      (λ h t _. sym (view-map B (formatted B size img label h)) ∙ formatted-map B size img label h)
+
+  -- block 2: zeros
+  pub format-directory : T (granted (format B img label .answer)) → block B (format B img label .image) 2 ≡ zeros B
+  format-directory =
+      by-format B img label (λ o. T (granted (o .answer)) → block B (o .image) 2 ≡ zeros B) (λ _ g. absurd g) (λ _ g. absurd g)
+      (λ h t _. sym (view-dir B (formatted B size img label h)) ∙ formatted-dir B size img label h)

@@ -128,7 +128,7 @@ module _ (B : ℕ) (sz : BlockSize B) (img : List ℕ) (ok : Consistent B img) w
     is-new = create-image B img passed nm z yes-create
 
     -- the answer is the lowest chosen block
-    answered : getD (chosen B v z) 0 0 ≡ h
+    pub answered : getD (chosen B v z) 0 0 ≡ h
     unfolding createView
     answered =
         let a8 = value-step (not (nameAllowed nm)) 8 _ h (sym (ap (λ (o : Outcome). o .answer) (create-is B img passed nm z)) ∙ e) in

@@ -35,20 +35,20 @@ pub record SameRead (B : ℕ) (a b : List ℕ) : Type 0 where
   pub rest : (i : ℕ) → 3 ≤ i → block B a i ≡ block B b i
 
 -- two views that differ at most so
-record Alike (B : ℕ) (v w : View) : Type 0 where
-  n : v .n ≡ w .n
-  magic-word : word (v .head) 0 ≡ word (w .head) 0
-  label : volumeName (v .head) ≡ volumeName (w .head)
-  bits : (i : ℕ) → i < v .n → mapBit (v .map) i ≡ mapBit (w .map) i
-  slot-same : (t : ℕ) → t < slots B → slot (v .dir) t ≡ slot (w .dir) t
-  inodes : v .inodes ≡ w .inodes
+pub record Alike (B : ℕ) (v w : View) : Type 0 where
+  pub n : v .n ≡ w .n
+  pub magic-word : word (v .head) 0 ≡ word (w .head) 0
+  pub label : volumeName (v .head) ≡ volumeName (w .head)
+  pub bits : (i : ℕ) → i < v .n → mapBit (v .map) i ≡ mapBit (w .map) i
+  pub slot-same : (t : ℕ) → t < slots B → slot (v .dir) t ≡ slot (w .dir) t
+  pub inodes : v .inodes ≡ w .inodes
 
 module _ (B : ℕ) (v w : View) (al : Alike B v w) where
-  size-alike : (s : ℕ) → size v s ≡ size w s
+  pub size-alike : (s : ℕ) → size v s ≡ size w s
   unfolding size
   size-alike s = ap (λ (x : List (List ℕ)). inodeSize (getD x s [])) (al .inodes)
 
-  number-alike : (s k : ℕ) → number v s k ≡ number w s k
+  pub number-alike : (s k : ℕ) → number v s k ≡ number w s k
   unfolding number
   number-alike s k = ap (λ (x : List (List ℕ)). inodeNumber (getD x s []) k) (al .inodes)
 
@@ -61,7 +61,7 @@ module _ (B : ℕ) (v w : View) (al : Alike B v w) where
     unfolding used
     used-alike = ap₂ slotUsed (al .n) (al .slot-same t h)
 
-    inode-alike : inode v t ≡ inode w t
+    pub inode-alike : inode v t ≡ inode w t
     unfolding inode
     inode-alike = ap slotInode (al .slot-same t h)
 
@@ -124,19 +124,19 @@ module _ (B : ℕ) (v w : View) (al : Alike B v w) where
       (cond (leb 16 (firstZero (volumeName (w .head)))) (broken 3 0)
       (found 4 (slots B) (least (badSlot w) (slots B)) (found 5 (slots B) (least (badInode B w) (slots B)) (found 6 n (least (claimedTwice (claimsTo B w (slots B))) n) (found 7 n (least (badBit w (claimsTo B w (slots B))) n) consistent)))))) (al .n)
 
-  slot-of-alike : (nm : List ℕ) → slotOf B v nm ≡ slotOf B w nm
+  pub slot-of-alike : (nm : List ℕ) → slotOf B v nm ≡ slotOf B w nm
   unfolding slotOf
   slot-of-alike nm =
       least-cong (λ s. not (free v s) && sameName (name v s) nm) (λ s. not (free w s) && sameName (name w s) nm) (slots B)
       (λ s h i. not (free-alike s h i) && sameName (name-alike s h i) nm)
 
-  slot-with-alike : (h : ℕ) → slotWith B v h ≡ slotWith B w h
+  pub slot-with-alike : (h : ℕ) → slotWith B v h ≡ slotWith B w h
   unfolding slotWith
   slot-with-alike h =
       least-cong (λ s. not (free v s) && eqb (inode v s) h) (λ s. not (free w s) && eqb (inode w s) h) (slots B)
       (λ s l i. not (free-alike s l i) && eqb (inode-alike s l i) h)
 
-  free-slot-alike : freeSlot B v ≡ freeSlot B w
+  pub free-slot-alike : freeSlot B v ≡ freeSlot B w
   unfolding freeSlot
   free-slot-alike = least-cong (free v) (free w) (slots B) free-alike
 
@@ -152,7 +152,7 @@ module _ (B : ℕ) (v w : View) (al : Alike B v w) where
   free-from-alike (suc d) k h = λ i.
       cond (al .bits k (omega arith) i) (free-from-alike d (suc k) (omega arith) i) (k ∷ free-from-alike d (suc k) (omega arith) i)
 
-  chosen-alike : (z : ℕ) → chosen B v z ≡ chosen B w z
+  pub chosen-alike : (z : ℕ) → chosen B v z ≡ chosen B w z
   unfolding chosen
   chosen-alike z =
       ap (take (1 + need B z)) (free-from-alike (v .n) 0 (omega arith) ∙ ap (freeFrom (w .map) 0) (al .n))
@@ -219,7 +219,7 @@ module _ (B : ℕ) (size-ok : BlockSize B) (a b : List ℕ) (same : SameRead B a
   inodes-same =
       table-cong (inodeAt B (blocks B a) a) (inodeAt B (blocks B b) b) 0 (slots B) (λ s h l. inode-at-alike s (omega arith))
 
-  alike : Alike B (view B a) (view B b)
+  pub alike : Alike B (view B a) (view B b)
   alike =
       record {
         n = view-n B a ∙ blocks-eq B a b (same .long) ∙ sym (view-n B b);

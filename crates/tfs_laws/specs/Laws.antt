@@ -1,5 +1,5 @@
 -- The laws of requests (demand 3), at the block size 512: one claim each, over all consistent volumes.
--- Each file that is named here proves its law over any block size.
+-- Each file that is named here proves its law over B: laws 1 and 2 over any but 0, laws 3 and 4 over a BlockSize, 512 or more and whole 32-bit words.
 use mathlib.Core.Path.{_≡_}
 use Prim.Native.Nat.{ℕ}
 use mathlib.Core.List.{List}

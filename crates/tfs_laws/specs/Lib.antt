@@ -18,4 +18,9 @@ pub mod Reads
 pub mod Kept
 pub mod Tail
 pub mod Ignored
+pub mod Grants
+pub mod Touches
+pub mod Rooms
+pub mod HandleSteps
+pub mod IgnoredSteps
 pub mod Demands

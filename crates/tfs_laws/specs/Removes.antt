@@ -71,7 +71,7 @@ module _ (B : ℕ) (sz : BlockSize B) (img : List ℕ) (ok : Consistent B img) (
   unfolding removeStores
   long′ = length-storeAll B (store 2 dir′ ∷ store 1 map′ ∷ []) img fits
 
-  kept : (b : ℕ) → b ≢ 1 → b ≢ 2 → block B new b ≡ block B img b
+  pub kept : (b : ℕ) → b ≢ 1 → b ≢ 2 → block B new b ≡ block B img b
   unfolding removeStores
   kept b d1 d2 = stored-away B (store 2 dir′ ∷ store 1 map′ ∷ []) img b fits (d2, (d1, tt))
 
@@ -121,11 +121,11 @@ module _ (B : ℕ) (sz : BlockSize B) (img : List ℕ) (ok : Consistent B img) (
       let j : Inside v b = owns-inside B v (ok .sound) (o .0) b (o .2) in
       omega (arith, map-inside B sz img b (j .high), length-map B img (ok .long)))
 
-  bit-out : (b : ℕ) → (In b (fileClaims B v s) → ⊥) → mapBit (v′ .map) b ≡ mapBit (v .map) b
+  pub bit-out : (b : ℕ) → (In b (fileClaims B v s) → ⊥) → mapBit (v′ .map) b ≡ mapBit (v .map) b
   bit-out b d =
       ap (λ (m : List ℕ). mapBit m b) (view-map B new ∙ new-map) ∙ bits-kept 0 (omega arith) (fileClaims B v s) (v .map) claims-mapped b d
 
-  bit-in : (b : ℕ) → In b (fileClaims B v s) → mapBit (v′ .map) b ≡ false
+  pub bit-in : (b : ℕ) → In b (fileClaims B v s) → mapBit (v′ .map) b ≡ false
   bit-in b i =
       ap (λ (m : List ℕ). mapBit m b) (view-map B new ∙ new-map) ∙ bits-set 0 (omega arith) (fileClaims B v s) (v .map) claims-mapped b i
 

@@ -1,47 +1,44 @@
+-- The part of the image from there on.
+use mathlib.Core.Path.{refl, ap}
+use Prim.Native.Nat.{_+_}
 use borrow.Author.Needs.{needs}
-use native.Mathlib.Omega.{arith}
-use mathlib.Core.Path.{_≡_}
-use denote.Ref.{now}
-use Rattle.romfs_rules.specs.Layout.{contentAt}
-use Rattle.romfs_check.specs.Known.{Walked}
-use Rattle.romfs_check.specs.Facts.{reach-room}
 use Rattle.romfs.proofs.Answers as answers
 use Rattle.romfs.proofs.content_part.Statement.{statement}
 use Rattle.romfs.proofs.content_part.Tie as tie
 
-walked : (c : tie.After-full-size) → Walked (now (c .before .before .args .image)) (c .full-size .result)
-walked c = answers.walked-of _ _ (c .before .before .pre .sound) (c .full-size .ensures .0) (c .full-size .ensures .1)
+-- src/lib.rt:212:9
+content-start-requires : tie.Need-content-start-requires
+content-start-requires c κs = search needs
 
-start : (c : tie.After-after-name) → let a = c .before .before .before .before .args in c .after-name .result ≡ contentAt (now (a .image)) (a .at)
-start c = answers.content-start _ _ _ _ (c .before .name-length .ensures .0) (c .after-name .ensures)
+-- src/lib.rt:213:19
+add-result : tie.Need-add-result
+add-result c = search needs
 
-full-size-requires : tie.Need-full-size-requires
-full-size-requires c κs = answers.long _ (c .before .pre .sound)
+-- src/lib.rt:213:5
+sub-result : tie.Need-sub-result
+sub-result c = search needs
 
-add-name-length : tie.Need-add-name-length
-add-name-length c =
-    let w = walked c in record { fits = omega (arith, reach-room _ _ w _ (c .before .before .pre .reached), w .whole .small) }
+-- src/lib.rt:213:5
+part-result-start : tie.Need-part-result-start
+part-result-start c = search needs
 
-name-length-requires : tie.Need-name-length-requires
-name-length-requires c κs = let w = walked c in (w .whole, omega (arith, reach-room _ _ w _ (c .before .before .pre .reached)))
-
+-- src/lib.rt:213:5
 part-result-end : tie.Need-part-result-end
-part-result-end c = answers.content-end _ _ _ _ _ (c .before .before .before .before .pre) (walked (c .before .before)) (start c)
+part-result-end c = search needs
 
+-- src/lib.rt:208:1
 returns : tie.Need-returns
-returns c = answers.content-part _ _ _ _ (start (c .before))
+returns c =
+    let start = c .before .content-start .ensures .0 in
+    (answers.content-part _ _ _ _ start, (refl, ap (λ o. o + c .before .before .before .args .image .ptr .1) start))
 
 pub content-part-spec : {M : Type 1} → statement M
 content-part-spec =
     tie.close
     (tie.spec
-    full-size-requires
-    add-name-length
-    name-length-requires
-    (λ c. search needs)
-    (λ c κs. search needs)
-    (λ c. search needs)
-    (λ c. search needs)
-    (λ c. search needs)
+    content-start-requires
+    add-result
+    sub-result
+    part-result-start
     part-result-end
     returns)

@@ -1,6 +1,6 @@
 use borrow.Author.Needs.{needs}
 use borrow.Author.Tests.{not-true, not-false}
-use mathlib.Core.Path.{_≡_, sym, _∙_}
+use mathlib.Core.Path.{_≡_, refl, sym, _∙_}
 use mathlib.Core.Bool.{true}
 use native.Mathlib.Omega.{arith}
 use denote.Ref.{now}
@@ -29,7 +29,7 @@ is-reached-requires : tie.Need-is-reached-requires
 is-reached-requires c κs = walked c
 
 returns : tie.Need-returns
-returns c = answers.described-31 _ _ (sym (c .before .is-reached .ensures) ∙ not-true _ (c .if1 .taken))
+returns c = (answers.described-31 _ _ (sym (c .before .is-reached .ensures) ∙ not-true _ (c .if1 .taken)), refl)
 
 kind-of-requires : tie.Need-kind-of-requires
 kind-of-requires c κs = answers.in-image _ _ (walked (c .before .before)) _ (reached c)
@@ -57,14 +57,16 @@ name-length-requires c κs =
     (w .whole, omega (arith, reach-room _ _ w _ (reached (c .before .before .before .before .before))))
 
 returns-2 : tie.Need-returns-2
-returns-2 c =
-    answers.described-as _ _ (found (c .before .before .before .before .before .before)) _
-    (answers.entry-fields _ _ _ _ _ _ _ _ (c .before .before .before .before .before .kind-of .ensures .0)
-    (c .before .before .before .before .executable-of .ensures .0)
-    (c .before .before .before .info-of .ensures .0)
-    (c .before .before .size-of .ensures .0)
-    (c .before .next-of .ensures .0)
-    (c .name-length .ensures .0))
+returns-2 c = (
+  answers.described-as _ _ (found (c .before .before .before .before .before .before)) _
+      (answers.entry-fields _ _ _ _ _ _ _ _ (c .before .before .before .before .before .kind-of .ensures .0)
+      (c .before .before .before .before .executable-of .ensures .0)
+      (c .before .before .before .info-of .ensures .0)
+      (c .before .before .size-of .ensures .0)
+      (c .before .next-of .ensures .0)
+      (c .name-length .ensures .0)),
+  tt,
+)
 
 pub entry-at-spec : {M : Type 1} → statement M
 entry-at-spec =

@@ -1,6 +1,6 @@
 use borrow.Author.Tests.{not-true, not-false}
 use borrow.Author.Needs.{needs}
-use mathlib.Core.Path.{_≡_, sym, _∙_}
+use mathlib.Core.Path.{_≡_, refl, sym, _∙_}
 use mathlib.Core.Bool.{true}
 use denote.Ref.{now}
 use Rattle.romfs_rules.specs.Check.{isReached}
@@ -23,25 +23,29 @@ is-reached-requires : tie.Need-is-reached-requires
 is-reached-requires c κs = walked c
 
 returns : tie.Need-returns
-returns c = answers.measured-unreached _ _ (sym (c .before .is-reached .ensures) ∙ not-true _ (c .if1 .taken))
+returns c = (answers.measured-unreached _ _ (sym (c .before .is-reached .ensures) ∙ not-true _ (c .if1 .taken)), refl)
 
 kind-of-requires : tie.Need-kind-of-requires
 kind-of-requires c κs = answers.in-image _ _ (walked (c .before .before)) _ (is-reached _ _ (found c))
 
 returns-2 : tie.Need-returns-2
-returns-2 c =
-    answers.measured-31 _ _ (found (c .before .before .before)) _ (c .before .before .kind-of .ensures .0)
-    (sym (c .before .has-data .ensures) ∙ not-true _ (c .if2 .taken))
+returns-2 c = (
+  answers.measured-31 _ _ (found (c .before .before .before)) _ (c .before .before .kind-of .ensures .0)
+      (sym (c .before .has-data .ensures) ∙ not-true _ (c .if2 .taken)),
+  refl,
+)
 
 size-of-requires : tie.Need-size-of-requires
 size-of-requires c κs = answers.in-image _ _ (walked (c .before .before .before .before .before)) _ (is-reached _ _ (found (c .before .before .before)))
 
 returns-3 : tie.Need-returns-3
-returns-3 c =
-    answers.measured-as _ _ (found (c .before .before .before .before)) _ (c .before .before .before .kind-of .ensures .0)
-    (sym (c .before .before .has-data .ensures) ∙ not-false _ (c .before .if2 .left))
-    _
-    (c .size-of .ensures .0)
+returns-3 c = (
+  answers.measured-as _ _ (found (c .before .before .before .before)) _ (c .before .before .before .kind-of .ensures .0)
+      (sym (c .before .before .has-data .ensures) ∙ not-false _ (c .before .if2 .left))
+      _
+      (c .size-of .ensures .0),
+  tt,
+)
 
 pub length-at-spec : {M : Type 1} → statement M
 length-at-spec =

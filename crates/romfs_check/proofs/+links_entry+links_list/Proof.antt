@@ -1,3 +1,4 @@
+use Rattle.romfs_check.specs.Facts.{fault-fits}
 use Prim.Native.Nat.{ℕ, _+_, _-_, _<_}
 use borrow.Author.Needs.{needs}
 use mathlib.Core.Path.{sym, ap, _∙_}
@@ -21,26 +22,26 @@ use Rattle.romfs_check.proofs.+links_entry+links_list.{statement}
 use Rattle.romfs_check.proofs.+links_entry+links_list.Tie.{close}
 
 -- each list is one level below its entry, and an entry is on the level of its list
-abbrev μ-links-entry : Measures 1 links-entry-kinds.ps ℕ
+abbrev μ-links-entry : Measures 2 links-entry-kinds.ps ℕ
 μ-links-entry κs a = a .1 .1 .1 .1 .0 + a .1 .1 .1 .1 .0
 
-abbrev μ-links-list : Measures 1 links-list-kinds.ps ℕ
+abbrev μ-links-list : Measures 2 links-list-kinds.ps ℕ
 μ-links-list κs a = a .1 .1 .1 .1 .0 + a .1 .1 .1 .1 .0 + 1
 
-abbrev links-entry-at : ℕ → In 1 links-entry-kinds.ps
+abbrev links-entry-at : ℕ → In 2 links-entry-kinds.ps
 links-entry-at t =
-    and 1 links-entry-kinds.ps (is 1 links-entry-kinds.ps μ-links-entry t) links-entry.Pre
+    and 2 links-entry-kinds.ps (is 2 links-entry-kinds.ps μ-links-entry t) links-entry.Pre
 
-abbrev links-entry-below : ℕ → In 1 links-entry-kinds.ps
+abbrev links-entry-below : ℕ → In 2 links-entry-kinds.ps
 links-entry-below t =
-    and 1 links-entry-kinds.ps (falls 1 links-entry-kinds.ps _<_ μ-links-entry t) links-entry.Pre
+    and 2 links-entry-kinds.ps (falls 2 links-entry-kinds.ps _<_ μ-links-entry t) links-entry.Pre
 
-abbrev links-list-at : ℕ → In 1 links-list-kinds.ps
-links-list-at t = and 1 links-list-kinds.ps (is 1 links-list-kinds.ps μ-links-list t) links-list.Pre
+abbrev links-list-at : ℕ → In 2 links-list-kinds.ps
+links-list-at t = and 2 links-list-kinds.ps (is 2 links-list-kinds.ps μ-links-list t) links-list.Pre
 
-abbrev links-list-below : ℕ → In 1 links-list-kinds.ps
+abbrev links-list-below : ℕ → In 2 links-list-kinds.ps
 links-list-below t =
-    and 1 links-list-kinds.ps (falls 1 links-list-kinds.ps _<_ μ-links-list t) links-list.Pre
+    and 2 links-list-kinds.ps (falls 2 links-list-kinds.ps _<_ μ-links-list t) links-list.Pre
 
 abbrev E : ℕ → links-entry-lts.Claims
 E t = (bad-link-reads.Asked, bad-link-reads.Learnt, below-entry-reads.Asked, below-entry-reads.Learnt, links-list-below t, links-list.Post)
@@ -49,13 +50,13 @@ abbrev L : ℕ → links-list-lts.Claims
 L t = (links-entry-below t, links-entry.Post, next-of-reads.Asked, next-of-reads.Learnt)
 
 links-entry-bad-link-requires : (t : ℕ) → links-entry-lts.Need-bad-link-requires (E t) (links-entry-at t) links-entry.Post
-links-entry-bad-link-requires t c κs = let k = c .before .pre .1 in (k .0, laws.here-room _ _ (k .0) _ _ _ (k .1) (k .2))
+links-entry-bad-link-requires t c κs = let k = c .before .pre .1 in (k .0, laws.here-room _ _ (k .0) _ _ _ (k .1) (k .2), k .3)
 
-links-entry-cast-t9 : (t : ℕ) → links-entry-lts.Need-cast-t9 (E t) (links-entry-at t) links-entry.Post
-links-entry-cast-t9 t c = let k = c .before .before .before .pre .1 in record { fits = omega (arith, laws.here-room _ _ (k .0) _ _ _ (k .1) (k .2), k .0 .whole .small) }
+links-entry-cast-t10 : (t : ℕ) → links-entry-lts.Need-cast-t10 (E t) (links-entry-at t) links-entry.Post
+links-entry-cast-t10 t c = let k = c .before .before .before .pre .1 in record { fits = omega (arith, laws.here-room _ _ (k .0) _ _ _ (k .1) (k .2), k .0 .whole .small) }
 
 links-entry-returns : (t : ℕ) → links-entry-lts.Need-returns (E t) (links-entry-at t) links-entry.Post
-links-entry-returns t c = let k = c .before .before .before .pre .1 in laws.link-broken _ _ (k .0) _ _ _ (k .1) (k .2) (sym (c .before .bad-link .ensures) ∙ c .if1 .taken)
+links-entry-returns t c = let k = c .before .before .before .pre .1 in (laws.link-broken _ _ (k .0) _ _ _ (k .1) (k .2) (sym (c .before .bad-link .ensures) ∙ c .if1 .taken), omega arith)
 
 links-entry-below-entry-requires : (t : ℕ) → links-entry-lts.Need-below-entry-requires (E t) (links-entry-at t) links-entry.Post
 links-entry-below-entry-requires t c κs = let k = c .before .before .before .pre .1 in (k .0 .whole, laws.here-room _ _ (k .0) _ _ _ (k .1) (k .2))
@@ -68,25 +69,25 @@ links-entry-links-list-requires t c κs =
     let k = c .before .before .before .before .before .before .before .pre .1 in
     let lies = laws.lies-of _ _ _ (c .before .first .given .1) (c .before .before .before .below-entry .ensures) in
     let some = laws.left-some _ _ (k .0) _ _ _ (k .1) (k .2) _ _ lies in
-    (search needs, (k .0, search needs, laws.list-reached _ _ (k .0) _ _ _ (k .1) (k .2) _ _ lies))
+    (search needs, (k .0, search needs, laws.list-reached _ _ (k .0) _ _ _ (k .1) (k .2) _ _ lies, k .3))
 
 links-entry-returns-2 : (t : ℕ) → links-entry-lts.Need-returns-2 (E t) (links-entry-at t) links-entry.Post
-links-entry-returns-2 t c = let k = c .before .before .before .before .before .before .pre .1 in laws.link-leaf _ _ (k .0) _ _ _ (k .1) (k .2) (sym (c .before .before .before .before .bad-link .ensures) ∙ c .before .before .before .if1 .left) (laws.lies-of _ _ _ (c .enum-told .given .1) (c .before .before .below-entry .ensures))
+links-entry-returns-2 t c = let k = c .before .before .before .before .before .before .pre .1 in (laws.link-leaf _ _ (k .0) _ _ _ (k .1) (k .2) (sym (c .before .before .before .before .bad-link .ensures) ∙ c .before .before .before .if1 .left) (laws.lies-of _ _ _ (c .enum-told .given .1) (c .before .before .below-entry .ensures)), tt)
 
 links-entry-returns-3 : (t : ℕ) → links-entry-lts.Need-returns-3 (E t) (links-entry-at t) links-entry.Post
-links-entry-returns-3 t c = let k = c .before .before .before .before .before .before .before .before .pre .1 in c .links-list .ensures ∙ laws.link-list _ _ (k .0) _ _ _ (k .1) (k .2) _ _ (laws.lies-of _ _ _ (c .before .before .first .given .1) (c .before .before .before .before .below-entry .ensures)) (sym (c .before .before .before .before .before .before .bad-link .ensures) ∙ c .before .before .before .before .before .if1 .left)
+links-entry-returns-3 t c = let k = c .before .before .before .before .before .before .before .before .pre .1 in (c .links-list .ensures .0 ∙ laws.link-list _ _ (k .0) _ _ _ (k .1) (k .2) _ _ (laws.lies-of _ _ _ (c .before .before .first .given .1) (c .before .before .before .before .below-entry .ensures)) (sym (c .before .before .before .before .before .before .bad-link .ensures) ∙ c .before .before .before .before .before .if1 .left), c .links-list .ensures .1)
 
 abbrev links-list-Inv-loop : links-list-lts.InvT-loop
-links-list-Inv-loop image full at bound left p₀ p = Reached image p bound (8 - left) × laws.Rest image (linkFault image) left bound at p
+links-list-Inv-loop image full at bound left marks p₀ p = Reached image p bound (8 - left) × laws.Rest image (linkFault image) left bound at p
 
 abbrev links-list-μ-loop : links-list-lts.MeasureT-loop
-links-list-μ-loop image full at bound left p₀ p = bound - p
+links-list-μ-loop image full at bound left marks p₀ p = bound - p
 
 links-list-returns : (t : ℕ) → links-list-lts.Need-returns (L t) (links-list-at t) links-list.Post links-list-Inv-loop links-list-μ-loop
 links-list-returns t c =
     let k = c .before .before .before .before .before .before .pre .1 in
     let l = c .before .before .before .before .loop in
-    laws.rest-fault _ _ _ _ _ _ (l .inv .1) (laws.here-in _ _ (k .0) _ _ _ (k .1) (l .inv .0)) (c .before .f .given .0 .0) (ap told (sym (c .before .f .given .1)) ∙ c .before .before .before .links-entry .ensures)
+    (laws.rest-fault _ _ _ _ _ _ (l .inv .1) (laws.here-in _ _ (k .0) _ _ _ (k .1) (l .inv .0)) (c .before .f .given .0 .0) (ap told (sym (c .before .f .given .1)) ∙ c .before .before .before .links-entry .ensures .0), fault-fits _ _ (c .before .f .given .1) (c .before .before .before .links-entry .ensures .1))
 
 links-list-next-of-requires : (t : ℕ) → links-list-lts.Need-next-of-requires (L t) (links-list-at t) links-list.Post links-list-Inv-loop links-list-μ-loop
 links-list-next-of-requires t c κs =
@@ -98,7 +99,7 @@ links-list-returns-2 : (t : ℕ) → links-list-lts.Need-returns-2 (L t) (links-
 links-list-returns-2 t c =
     let k = c .before .before .before .before .before .before .before .pre .1 in
     let l = c .before .before .before .before .before .loop in
-    laws.rest-last _ _ _ _ _ _ (l .inv .1) (laws.here-in _ _ (k .0) _ _ _ (k .1) (l .inv .0)) (ap told (sym (c .before .before .enum-told .given .1)) ∙ c .before .before .before .before .links-entry .ensures) (sym (c .before .next-of .ensures .0) ∙ c .if1 .taken)
+    (laws.rest-last _ _ _ _ _ _ (l .inv .1) (laws.here-in _ _ (k .0) _ _ _ (k .1) (l .inv .0)) (ap told (sym (c .before .before .enum-told .given .1)) ∙ c .before .before .before .before .links-entry .ensures .0) (sym (c .before .next-of .ensures .0) ∙ c .if1 .taken), tt)
 
 links-list-loop-less : (t : ℕ) → links-list-lts.Need-loop-less (L t) (links-list-at t) links-list.Post links-list-Inv-loop links-list-μ-loop
 links-list-loop-less t c =
@@ -113,8 +114,8 @@ links-list-loop-again t c =
     let l = c .before .before .before .before .before .loop in
     let e = c .before .next-of .ensures .0 in
     let n = laws.here-next _ _ (k .0) _ _ _ (k .1) (l .inv .0) _ e (c .if1 .left) in (
-      laws.next-reached _ _ (k .0) _ _ _ (k .1) (l .inv .0) _ e (c .if1 .left),
-      laws.rest-next _ _ _ _ _ _ (l .inv .1) (laws.here-in _ _ (k .0) _ _ _ (k .1) (l .inv .0)) (ap told (sym (c .before .before .enum-told .given .1)) ∙ c .before .before .before .before .links-entry .ensures) _ e (c .if1 .left) (n .0),
+      laws.reached-next _ _ _ _ (l .inv .0) _ e (c .if1 .left),
+      laws.rest-next _ _ _ _ _ _ (l .inv .1) (laws.here-in _ _ (k .0) _ _ _ (k .1) (l .inv .0)) (ap told (sym (c .before .before .enum-told .given .1)) ∙ c .before .before .before .before .links-entry .ensures .0) _ e (c .if1 .left) (n .0),
     )
 
 pub +links-entry+links-list-spec : {M : Type 1} → statement M
@@ -123,7 +124,7 @@ pub +links-entry+links-list-spec : {M : Type 1} → statement M
     (λ t.
     links-entry-lts.spec (E t) (links-entry-at t) links-entry.Post
     (links-entry-bad-link-requires t)
-    (links-entry-cast-t9 t)
+    (links-entry-cast-t10 t)
     (links-entry-returns t)
     (links-entry-below-entry-requires t)
     (λ c. search needs)

@@ -1,12 +1,15 @@
-use Rattle.romfs_check.specs.Facts.{sound-next}
+use Rattle.romfs_check.specs.Facts.{sound-next, fault-fits}
 use Prim.Native.Nat.{ℕ, _+_, _-_, _<_}
 use borrow.Author.Needs.{needs}
-use mathlib.Core.Path.{sym, ap, _∙_}
+use mathlib.Core.Path.{sym, ap, subst, _∙_}
+use denote.Ref.{now}
 use native.Mathlib.Omega.{arith}
 use borrow.Fn.Kinds.{In}
 use borrow.Fn.PlainCycle.{Measures, is, falls, and}
 use Rattle.romfs_rules.specs.Rules.{fault}
+use Rattle.romfs_rules.specs.Reached.{Reached}
 use Rattle.romfs_check.specs.Told.{told}
+use Rattle.romfs_check.specs.Marks.{Marked, marked-at}
 use Rattle.romfs_check.proofs.Laws as laws
 use Rattle.romfs_check.proofs.walk_entry.Reads as walk-entry
 use Rattle.romfs_check.proofs.walk_entry.Kinds as walk-entry-kinds
@@ -14,103 +17,142 @@ use Rattle.romfs_check.proofs.+walk_entry+walk_list.Lts-walk_entry as w
 use Rattle.romfs_check.proofs.walk_list.Reads as walk-list
 use Rattle.romfs_check.proofs.walk_list.Kinds as walk-list-kinds
 use Rattle.romfs_check.proofs.+walk_entry+walk_list.Lts-walk_list as walk-list-lts
+use Rattle.romfs_check.proofs.mark.Reads as mark-reads
 use Rattle.romfs_headers.proofs.next_of.Reads as next-of-reads
 use Rattle.romfs_headers.proofs.read_entry.Reads as read-entry-reads
 use Rattle.romfs_check.proofs.+walk_entry+walk_list.{statement}
 use Rattle.romfs_check.proofs.+walk_entry+walk_list.Tie.{close}
 
 -- each list is one level below its entry, and an entry is on the level of its list
-abbrev μ-walk-entry : Measures 1 walk-entry-kinds.ps ℕ
+abbrev μ-walk-entry : Measures 2 walk-entry-kinds.ps ℕ
 μ-walk-entry κs a = a .1 .1 .1 .1 .0 + a .1 .1 .1 .1 .0
 
-abbrev μ-walk-list : Measures 1 walk-list-kinds.ps ℕ
+abbrev μ-walk-list : Measures 2 walk-list-kinds.ps ℕ
 μ-walk-list κs a = a .1 .1 .1 .1 .0 + a .1 .1 .1 .1 .0 + 1
 
-abbrev walk-entry-at : ℕ → In 1 walk-entry-kinds.ps
+abbrev walk-entry-at : ℕ → In 2 walk-entry-kinds.ps
 walk-entry-at t =
-    and 1 walk-entry-kinds.ps (is 1 walk-entry-kinds.ps μ-walk-entry t) walk-entry.Pre
+    and 2 walk-entry-kinds.ps (is 2 walk-entry-kinds.ps μ-walk-entry t) walk-entry.Pre
 
-abbrev walk-entry-below : ℕ → In 1 walk-entry-kinds.ps
+abbrev walk-entry-below : ℕ → In 2 walk-entry-kinds.ps
 walk-entry-below t =
-    and 1 walk-entry-kinds.ps (falls 1 walk-entry-kinds.ps _<_ μ-walk-entry t) walk-entry.Pre
+    and 2 walk-entry-kinds.ps (falls 2 walk-entry-kinds.ps _<_ μ-walk-entry t) walk-entry.Pre
 
-abbrev walk-list-at : ℕ → In 1 walk-list-kinds.ps
-walk-list-at t = and 1 walk-list-kinds.ps (is 1 walk-list-kinds.ps μ-walk-list t) walk-list.Pre
+abbrev walk-list-at : ℕ → In 2 walk-list-kinds.ps
+walk-list-at t = and 2 walk-list-kinds.ps (is 2 walk-list-kinds.ps μ-walk-list t) walk-list.Pre
 
-abbrev walk-list-below : ℕ → In 1 walk-list-kinds.ps
+abbrev walk-list-below : ℕ → In 2 walk-list-kinds.ps
 walk-list-below t =
-    and 1 walk-list-kinds.ps (falls 1 walk-list-kinds.ps _<_ μ-walk-list t) walk-list.Pre
+    and 2 walk-list-kinds.ps (falls 2 walk-list-kinds.ps _<_ μ-walk-list t) walk-list.Pre
 
 abbrev E : ℕ → walk-entry-lts.Claims
-E t = (read-entry-reads.Asked, read-entry-reads.Learnt, walk-list-below t, walk-list.Post)
+E t = (mark-reads.Asked, mark-reads.Learnt, read-entry-reads.Asked, read-entry-reads.Learnt, walk-list-below t, walk-list.Post)
 
 abbrev L : ℕ → walk-list-lts.Claims
 L t = (walk-entry-below t, walk-entry.Post, next-of-reads.Asked, next-of-reads.Learnt)
 
+walk-entry-mark-requires : (t : ℕ) → walk-entry-lts.Need-mark-requires (E t) (walk-entry-at t) walk-entry.Post
+walk-entry-mark-requires t c κs = search needs
+
+-- the header is marked
+marked : (t : ℕ) (c : walk-entry-lts.After-mark (E t) (walk-entry-at t) walk-entry.Post) → Marked (now (c .before .before .before .args .image)) (c .mark .last .1 .1 .1 .0)
+marked t c =
+    let start = c .before .before .before in
+    subst (Marked (now (start .args .image))) (sym (c .mark .ensures))
+    (marked-at _ _ (start .pre .1 .5) _ _ (record { bound = start .args .bound; depth = 8 - start .args .left; reached = start .pre .1 .4 }))
+
+walk-entry-sub-walk-list : (t : ℕ) → walk-entry-lts.Need-sub-walk-list (E t) (walk-entry-at t) walk-entry.Post
+walk-entry-sub-walk-list t c =
+    let start = c .before .before .before .before .before .before .before in
+    let k = laws.step-in _ _ _ _ (start .pre .1 .3) _ _ (laws.reads-of _ _ _ _ (c .before .first .given .1) (c .before .before .before .read-entry .ensures)) in
+    omega arith
+
 walk-entry-walk-list-requires : (t : ℕ) → walk-entry-lts.Need-walk-list-requires (E t) (walk-entry-at t) walk-entry.Post
 walk-entry-walk-list-requires t c κs =
-    let start = c .before .before .before .before .before in
-    let k = laws.step-in _ _ _ _ (start .pre .1 .3) _ _ (laws.reads-of _ _ _ _ (c .before .first .given .1) (c .before .before .before .read-entry .ensures)) in
-    (search needs, (search needs, search needs, search needs, search needs))
+    let start = c .before .before .before .before .before .before .before .before in
+    let r = laws.reads-of _ _ _ _ (c .before .before .first .given .1) (c .before .before .before .before .read-entry .ensures) in
+    let k = laws.step-in _ _ _ _ (start .pre .1 .3) _ _ r in
+    (search needs, (search needs, search needs, search needs, search needs, laws.step-reached _ _ _ _ (start .pre .1 .3) _ _ r (start .pre .1 .4), marked t (c .before .before .before .before .before)))
 
 walk-entry-returns : (t : ℕ) → walk-entry-lts.Need-returns (E t) (walk-entry-at t) walk-entry.Post
-walk-entry-returns t c = laws.step-broken _ _ _ _ (c .before .before .before .before .before .pre .1 .3) _ (laws.reads-of _ _ _ _ (c .before .n .given .1) (c .before .before .before .read-entry .ensures))
+walk-entry-returns t c =
+    let start = c .before .before .before .before .before .before .before in
+    let r = laws.reads-of _ _ _ _ (c .before .n .given .1) (c .before .before .before .read-entry .ensures) in
+    (laws.step-broken _ _ _ _ (start .pre .1 .3) _ r, omega (arith, laws.step-number _ _ _ _ _ r), marked t (c .before .before .before .before))
 
 walk-entry-returns-2 : (t : ℕ) → walk-entry-lts.Need-returns-2 (E t) (walk-entry-at t) walk-entry.Post
-walk-entry-returns-2 t c = laws.step-leaf _ _ _ _ (c .before .before .before .before .pre .1 .3) (laws.reads-of _ _ _ _ (c .enum-told .given .1) (c .before .before .read-entry .ensures))
+walk-entry-returns-2 t c =
+    let start = c .before .before .before .before .before .before in
+    (laws.step-leaf _ _ _ _ (start .pre .1 .3) (laws.reads-of _ _ _ _ (c .enum-told .given .1) (c .before .before .read-entry .ensures)), tt, marked t (c .before .before .before))
 
 walk-entry-returns-3 : (t : ℕ) → walk-entry-lts.Need-returns-3 (E t) (walk-entry-at t) walk-entry.Post
-walk-entry-returns-3 t c = c .walk-list .ensures ∙ laws.step-list _ _ _ _ (c .before .before .before .before .before .before .pre .1 .3) _ _ (laws.reads-of _ _ _ _ (c .before .before .first .given .1) (c .before .before .before .before .read-entry .ensures))
+walk-entry-returns-3 t c =
+    let start = c .before .before .before .before .before .before .before .before .before in
+    let r = laws.reads-of _ _ _ _ (c .before .before .before .first .given .1) (c .before .before .before .before .before .read-entry .ensures) in
+    (c .walk-list .ensures .0 ∙ laws.step-list _ _ _ _ (start .pre .1 .3) _ _ r, c .walk-list .ensures .1, c .walk-list .ensures .2)
 
 abbrev walk-list-Inv-loop : walk-list-lts.InvT-loop
-walk-list-Inv-loop image full at bound left p₀ p = (p < bound) × laws.Rest image (fault image) left bound at p
+walk-list-Inv-loop image full at bound left marks₀ p₀ marks p = (p < bound) × laws.Rest image (fault image) left bound at p × Reached image p bound (8 - left) × Marked image marks
 
 abbrev walk-list-μ-loop : walk-list-lts.MeasureT-loop
-walk-list-μ-loop image full at bound left p₀ p = bound - p
+walk-list-μ-loop image full at bound left marks₀ p₀ marks p = bound - p
 
 walk-list-returns : (t : ℕ) → walk-list-lts.Need-returns (L t) (walk-list-at t) walk-list.Post walk-list-Inv-loop walk-list-μ-loop
-walk-list-returns t c = let l = c .before .before .before .before .loop in laws.rest-fault _ _ _ _ _ _ (l .inv .1) (l .inv .0) (c .before .f .given .0 .0) (ap told (sym (c .before .f .given .1)) ∙ c .before .before .before .walk-entry .ensures)
+walk-list-returns t c =
+    let l = c .before .before .before .before .before .loop in
+    let y = c .before .before .before .walk-entry .ensures in
+    (laws.rest-fault _ _ _ _ _ _ (l .inv .1) (l .inv .0) (c .before .f .given .0 .0) (ap told (sym (c .before .f .given .1)) ∙ y .0), fault-fits _ _ (c .before .f .given .1) (y .1), y .2)
 
 walk-list-next-of-requires : (t : ℕ) → walk-list-lts.Need-next-of-requires (L t) (walk-list-at t) walk-list.Post walk-list-Inv-loop walk-list-μ-loop
-walk-list-next-of-requires t c κs = let h = laws.walked-sound _ _ _ _ (c .before .before .before .before .before .pre .1 .3) (ap told (sym (c .enum-told .given .1)) ∙ c .before .before .walk-entry .ensures) in omega (arith, laws.sound-room _ _ _ _ h)
+walk-list-next-of-requires t c κs =
+    let h = laws.walked-sound _ _ _ _ (c .before .before .before .before .before .before .pre .1 .3) (ap told (sym (c .enum-told .given .1)) ∙ c .before .before .walk-entry .ensures .0) in
+    omega (arith, laws.sound-room _ _ _ _ h)
 
 walk-list-returns-2 : (t : ℕ) → walk-list-lts.Need-returns-2 (L t) (walk-list-at t) walk-list.Post walk-list-Inv-loop walk-list-μ-loop
-walk-list-returns-2 t c = let l = c .before .before .before .before .before .loop in laws.rest-last _ _ _ _ _ _ (l .inv .1) (l .inv .0) (ap told (sym (c .before .before .enum-told .given .1)) ∙ c .before .before .before .before .walk-entry .ensures) (sym (c .before .next-of .ensures .0) ∙ c .if1 .taken)
+walk-list-returns-2 t c =
+    let l = c .before .before .before .before .before .before .loop in
+    let y = c .before .before .before .before .walk-entry .ensures in
+    (laws.rest-last _ _ _ _ _ _ (l .inv .1) (l .inv .0) (ap told (sym (c .before .before .enum-told .given .1)) ∙ y .0) (sym (c .before .next-of .ensures .0) ∙ c .if1 .taken), tt, y .2)
 
 walk-list-loop-less : (t : ℕ) → walk-list-lts.Need-loop-less (L t) (walk-list-at t) walk-list.Post walk-list-Inv-loop walk-list-μ-loop
 walk-list-loop-less t c =
-    let h = laws.walked-sound _ _ _ _ (c .before .before .before .before .before .before .before .pre .1 .3) (ap told (sym (c .before .before .enum-told .given .1)) ∙ c .before .before .before .before .walk-entry .ensures) in
+    let h = laws.walked-sound _ _ _ _ (c .before .before .before .before .before .before .before .before .pre .1 .3) (ap told (sym (c .before .before .enum-told .given .1)) ∙ c .before .before .before .before .walk-entry .ensures .0) in
     let n = sound-next _ _ _ _ _ h (c .before .next-of .ensures .0) (c .if1 .left) in
     omega arith
 
 walk-list-loop-again : (t : ℕ) → walk-list-lts.Need-loop-again (L t) (walk-list-at t) walk-list.Post walk-list-Inv-loop walk-list-μ-loop
 walk-list-loop-again t c =
-    let l = c .before .before .before .before .before .loop in
-    let e = ap told (sym (c .before .before .enum-told .given .1)) ∙ c .before .before .before .before .walk-entry .ensures in
-    let h = laws.walked-sound _ _ _ _ (c .before .before .before .before .before .before .before .pre .1 .3) e in
-    let n = sound-next _ _ _ _ _ h (c .before .next-of .ensures .0) (c .if1 .left) in
-    (n .1, laws.rest-next _ _ _ _ _ _ (l .inv .1) (l .inv .0) e _ (c .before .next-of .ensures .0) (c .if1 .left) (n .0))
+    let l = c .before .before .before .before .before .before .loop in
+    let y = c .before .before .before .before .walk-entry .ensures in
+    let e = ap told (sym (c .before .before .enum-told .given .1)) ∙ y .0 in
+    let h = laws.walked-sound _ _ _ _ (c .before .before .before .before .before .before .before .before .pre .1 .3) e in
+    let f = c .before .next-of .ensures .0 in
+    let n = sound-next _ _ _ _ _ h f (c .if1 .left) in (
+      n .1,
+      laws.rest-next _ _ _ _ _ _ (l .inv .1) (l .inv .0) e _ f (c .if1 .left) (n .0),
+      laws.reached-next _ _ _ _ (l .inv .2) _ f (c .if1 .left),
+      y .2,
+    )
 
 pub +walk-entry+walk-list-spec : {M : Type 1} → statement M
 +walk-entry+walk-list-spec =
     close μ-walk-entry μ-walk-list
     (λ t.
     walk-entry-lts.spec (E t) (walk-entry-at t) walk-entry.Post
+    (walk-entry-mark-requires t)
     (λ c κs. search needs)
     (λ c. search needs)
     (λ c. search needs)
     (λ c. search needs)
     (λ c. search needs)
-    (λ c.
-    let k = laws.step-in _ _ _ _ (c .before .before .before .before .before .pre .1 .3) _ _ (laws.reads-of _ _ _ _ (c .before .first .given .1) (c .before .before .before .read-entry .ensures)) in
-    omega arith)
+    (walk-entry-sub-walk-list t)
     (walk-entry-walk-list-requires t)
     (walk-entry-returns t)
     (walk-entry-returns-2 t)
     (walk-entry-returns-3 t))
     (λ t.
     walk-list-lts.spec (L t) (walk-list-at t) walk-list.Post walk-list-Inv-loop walk-list-μ-loop
-    (λ c. (search needs, laws.rest-all _ _ _ _ _))
+    (λ c. (search needs, laws.rest-all _ _ _ _ _, c .before .pre .1 .4, c .before .pre .1 .5))
     (λ c κs. search needs)
     (λ c. search needs)
     (walk-list-returns t)

@@ -14,13 +14,13 @@ use Rattle.romfs_check.proofs.bad_link.Statement.{statement}
 use Rattle.romfs_check.proofs.bad_link.Tie as tie
 
 found : (c : tie.Else2) → isReached (now (c .before .before .before .before .before .before .args .image)) (c .before .before .before .info-of .result) ≡ true
-found c = sym (c .before .is-reached .ensures) ∙ not-false _ (c .if2 .left)
+found c = sym (c .before .is-reached-by .ensures) ∙ not-false _ (c .if2 .left)
 
 returns : tie.Need-returns
 returns c =
     laws.link-hard-none _ _ _ (c .before .before .before .info-of .ensures .0)
     (sym (c .before .before .before .before .kind-of .ensures .0) ∙ c .before .before .if1 .taken)
-    (sym (c .before .is-reached .ensures) ∙ not-true _ (c .if2 .taken))
+    (sym (c .before .is-reached-by .ensures) ∙ not-true _ (c .if2 .taken))
 
 kind-of-requires-2 : tie.Need-kind-of-requires-2
 kind-of-requires-2 c κs =
@@ -47,7 +47,7 @@ returns-4 c =
 
 returns-5 : tie.Need-returns-5
 returns-5 c =
-    ap not (c .is-reached2 .ensures)
+    ap not (c .is-reached-by2 .ensures)
     ∙ laws.link-dots _ _ _ (c .before .before .before .before .before .before .info-of .ensures .0)
     (sym (c .before .before .before .before .before .before .before .kind-of .ensures .0) ∙ c .before .before .before .before .if3 .left)
     (sym (c .before .before .is-dots .ensures) ∙ not-false _ (c .before .if4 .left))

@@ -1,8 +1,9 @@
-use Rattle.romfs_check.specs.Facts.{length-of, whole-volume}
+use Rattle.romfs_check.specs.Facts.{length-of, whole-volume, fault-fits}
 use mathlib.Core.Path.{sym, ap, _∙_}
 use denote.Ref.{now}
 use Rattle.romfs_rules.specs.Check.{walk, links}
 use Rattle.romfs_check.specs.Told.{told}
+use Rattle.romfs_check.specs.Marks.{marked-none}
 use Rattle.romfs_check.proofs.Laws as laws
 use borrow.Author.Needs.{needs}
 use Rattle.romfs_check.proofs.check_headers.Statement.{statement}
@@ -12,16 +13,29 @@ full-size-requires : tie.Need-full-size-requires
 full-size-requires c κs = length-of _ (c .before .pre)
 
 check-walk-requires : tie.Need-check-walk-requires
-check-walk-requires c κs = let v = c .before .before .pre in (whole-volume _ _ v (c .full-size .ensures .0) (c .full-size .ensures .1), v)
+check-walk-requires c κs =
+    let v = c .before .before .before .pre in
+    let f = c .before .full-size .ensures in
+    (whole-volume _ _ v (f .0) (f .1), v, marked-none _ 2048)
 
 check-links-requires : tie.Need-check-links-requires
-check-links-requires c κs = let v = c .before .before .before .before .before .pre in record { whole = whole-volume _ _ v (c .before .before .before .full-size .ensures .0) (c .before .before .before .full-size .ensures .1); volume = v; walked = sym (ap told (sym (c .enum-told .given .1)) ∙ c .before .before .check-walk .ensures) }
+check-links-requires c κs =
+    let v = c .before .before .before .before .before .before .before .pre in
+    let f = c .before .before .before .before .before .full-size .ensures in
+    let y = c .before .before .before .check-walk .ensures in
+    (record { whole = whole-volume _ _ v (f .0) (f .1); volume = v; walked = sym (ap told (sym (c .before .enum-told .given .1)) ∙ y .0) }, y .2)
 
 returns : tie.Need-returns
-returns c = let s = now (c .before .before .before .before .before .before .args .image) in laws.refused-on (c .before .f .given .0 .0) (walk s) (links s) (ap told (sym (c .before .f .given .1)) ∙ c .before .before .before .check-walk .ensures)
+returns c =
+    let s = now (c .before .before .before .before .before .before .before .args .image) in
+    let y = c .before .before .before .check-walk .ensures in
+    (laws.refused-on (c .before .f .given .0 .0) (walk s) (links s) (ap told (sym (c .before .f .given .1)) ∙ y .0), fault-fits _ _ (c .before .f .given .1) (y .1))
 
 returns-2 : tie.Need-returns-2
-returns-2 c = let s = now (c .before .before .before .before .before .before .args .image) in laws.accepted-on (walk s) (links s) (told (c .check-links .result)) (ap told (sym (c .before .enum-told .given .1)) ∙ c .before .before .before .check-walk .ensures) (c .check-links .ensures)
+returns-2 c =
+    let s = now (c .before .before .before .before .before .before .before .before .args .image) in
+    let y = c .before .before .before .before .check-walk .ensures in
+    (laws.accepted-on (walk s) (links s) (told (c .check-links .result)) (ap told (sym (c .before .before .enum-told .given .1)) ∙ y .0) (c .check-links .ensures .0), c .check-links .ensures .1)
 
 pub check-headers-spec : {M : Type 1} → statement M
 check-headers-spec =

@@ -13,15 +13,24 @@ first-root-requires c κs = (c .before .pre .0, full-at-least _ _ (c .before .pr
 
 returns : tie.Need-returns
 unfolding walk
-returns c = laws.root-none _ (fault _) _ _ (c .before .first-root .ensures) (c .before .before .before .pre .0 .is) (c .if1 .taken)
+returns c =
+    let k = c .before .before .before .pre in
+    (laws.root-none _ (fault _) _ _ (c .before .first-root .ensures) (k .0 .is) (c .if1 .taken), tt, k .2)
 
 walk-list-requires : tie.Need-walk-list-requires
 unfolding walk
-walk-list-requires c κs = let l = laws.root-in-full _ _ _ (c .before .before .before .pre .1) (c .before .first-root .ensures) (c .before .before .before .pre .0 .is) (c .if1 .left) in (c .before .before .before .pre .0, l, search needs, search needs)
+walk-list-requires c κs =
+    let k = c .before .before .before .before .pre in
+    let e = c .before .before .first-root .ensures in
+    let z = c .before .if1 .left in
+    (k .0, laws.root-in-full _ _ _ (k .1) e (k .0 .is) z, search needs, search needs, laws.root-reached _ _ _ e (k .0 .is) z, k .2)
 
 returns-2 : tie.Need-returns-2
 unfolding walk
-returns-2 c = c .walk-list .ensures ∙ laws.root-some _ (fault _) _ _ (c .before .before .first-root .ensures) (c .before .before .before .before .pre .0 .is) (c .before .if1 .left)
+returns-2 c =
+    let k = c .before .before .before .before .before .pre in
+    let y = c .walk-list .ensures in
+    (y .0 ∙ laws.root-some _ (fault _) _ _ (c .before .before .before .first-root .ensures) (k .0 .is) (c .before .before .if1 .left), y .1, y .2)
 
 pub check-walk-spec : {M : Type 1} → statement M
 check-walk-spec = tie.close (tie.spec first-root-requires returns walk-list-requires returns-2)

@@ -81,7 +81,7 @@ returns-3 c =
     let free = sym (c .before .before .before .before .before .slot-free .ensures) ∙ c .before .before .before .before .if2 .left in
     let e = list-file (start .args .image .now) (start .args .slot) (start .pre) (c .before .before .before .before .before .before .before .if1 .left) free (c .before .before .before .slot-inode .result) (c .before .before .file-size .result) (c .before .before .before .slot-inode .ensures) (c .before .before .file-size .ensures) in
     let n = ap (take (c .before .name-length .result)) (c .slot-name .ensures) ∙ name-back _ (c .before .name-length .result) (c .before .name-length .ensures .0) (c .before .name-length .ensures .1) in
-    (ap (λ (x : List ℕ). file x (c .before .before .before .slot-inode .result) (c .before .before .file-size .result)) n ∙ e, c .slot-name .ensures ∙ ap listedName e, tt)
+    (ap (λ (x : List ℕ). file x (c .before .before .before .slot-inode .result) (c .before .before .file-size .result)) n ∙ e, c .slot-name .ensures ∙ ap listedName e, c .before .name-length .ensures .1)
 
 pub list-sound-spec : {M : Type 1} → statement M
 list-sound-spec =

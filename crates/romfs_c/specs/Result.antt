@@ -1,0 +1,73 @@
+-- What a result of the C interface tells: an answer of the rules, as numbers.
+use Prim.Native.Nat.{ℕ}
+use mathlib.Core.Path.{_≡_, refl, subst}
+use Rattle.romfs_rules.specs.Answers.{Answer, granted, denied, Entry, checked, startOf}
+use Rattle.romfs_check.specs.declared.Fault.{Fault}
+use Rattle.romfs_check.specs.declared.Fault.the-variants as fault
+use Rattle.romfs_check.specs.declared.CheckAnswer.{CheckAnswer}
+use Rattle.romfs_check.specs.declared.CheckAnswer.the-variants as checks
+use Rattle.romfs_check.specs.Told.{told}
+use Rattle.romfs.specs.Told.{toldUnsound}
+use Rattle.romfs_c.specs.declared.RomfsResult.{RomfsResult}
+use Rattle.romfs_c.specs.declared.RomfsHeader.{RomfsHeader}
+use Rattle.romfs_c.specs.declared.RomfsPart.{RomfsPart}
+
+-- 0 for granted, or the number of the refusal
+abbrev pub refusalOf : {A : Type 0} → Answer A → ℕ
+refusalOf (granted x) = 0
+refusalOf (denied n p) = n
+
+-- the place of the refusal, or 0
+abbrev pub placeOf : {A : Type 0} → Answer A → ℕ
+placeOf (granted x) = 0
+placeOf (denied n p) = p
+
+-- the number granted, or 0
+abbrev pub valueOf : Answer ℕ → ℕ
+valueOf (granted x) = x
+valueOf (denied n p) = 0
+
+abbrev pub Tells : RomfsResult → Answer ℕ → Type 0
+Tells r a = (r .refusal ≡ refusalOf a) × (r .place ≡ placeOf a) × (r .value ≡ valueOf a)
+
+-- ---- entry: a field of the entry granted, or 0
+abbrev pub fieldOf : (Entry → ℕ) → Answer Entry → ℕ
+fieldOf field (granted e) = field e
+fieldOf field (denied n p) = 0
+
+abbrev pub TellsHeader : RomfsHeader → Answer Entry → Type 0
+TellsHeader r a =
+    (r .refusal ≡ refusalOf a) × (r .place ≡ placeOf a)
+    × (r .kind ≡ fieldOf (λ e. e .type) a) × (r .executable ≡ fieldOf (λ e. e .executable) a)
+    × (r .info ≡ fieldOf (λ e. e .info) a) × (r .size ≡ fieldOf (λ e. e .size) a)
+    × (r .next ≡ fieldOf (λ e. e .next) a) × (r .namelen ≡ fieldOf (λ e. e .nameLength) a)
+
+-- ---- content: where it begins and how long it is, or 0 and 0
+abbrev pub TellsPart : RomfsPart → ℕ → Answer ℕ → Type 0
+TellsPart r start a =
+    (r .refusal ≡ refusalOf a) × (r .place ≡ placeOf a) × (r .offset ≡ startOf start a) × (r .length ≡ valueOf a)
+
+-- ---- the check's own answer: nothing but the grant
+abbrev pub checkedAnswer : CheckAnswer → Answer ℕ
+checkedAnswer checks.Accepted = granted 0
+checkedAnswer (checks.Refused f) = toldUnsound f
+
+pub checked-is : (c : CheckAnswer) → checkedAnswer c ≡ checked (told c) (granted 0)
+checked-is checks.Accepted = refl
+checked-is (checks.Refused (fault.Volume n)) = refl
+checked-is (checks.Refused (fault.Header n p)) = refl
+
+-- ---- an answer may be replaced by its equal
+pub tells-by : {r : RomfsResult} {a b : Answer ℕ} → Tells r a → a ≡ b → Tells r b
+tells-by {r} t e = subst (λ x. Tells r x) e t
+
+pub header-by : (r : RomfsHeader) {a b : Answer Entry} → TellsHeader r a → a ≡ b → TellsHeader r b
+header-by r t e = subst (λ x. TellsHeader r x) e t
+
+pub part-by : (r : RomfsPart) (start : ℕ) {a b : Answer ℕ} → TellsPart r start a → a ≡ b → TellsPart r start b
+part-by r start t e = subst (λ x. TellsPart r start x) e t
+
+-- a refused content begins nowhere
+pub part-none : (r : RomfsPart) (start : ℕ) (f : Fault) → TellsPart r 0 (toldUnsound f) → TellsPart r start (toldUnsound f)
+part-none r start (fault.Volume n) t = t
+part-none r start (fault.Header n p) t = t

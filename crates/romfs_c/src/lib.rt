@@ -1,0 +1,219 @@
+// The romfs requests for C. The header is romfs.h; a slice passes as a pointer and then a length.
+ghost use mathlib.Core.Path.{_≡_};
+ghost use Rattle.romfs_rules.specs.Layout.{contentAt};
+ghost use Rattle.romfs_rules.specs.Check as rules;
+ghost use Rattle.romfs_rules.specs.Answers as answers;
+ghost use Rattle.romfs_rules.specs.Answers.{checked, granted};
+ghost use Rattle.romfs.specs.Told.{toldUnsound, toldFind, toldEntry, toldContent};
+ghost use Rattle.romfs_c.specs.Result.{checkedAnswer, Tells, TellsHeader, TellsPart};
+use romfs::ContentAnswer;
+use romfs::EntryAnswer;
+use romfs::FindAnswer;
+use romfs_check::CheckAnswer;
+use romfs_check::Fault;
+
+// The refusal's number, 0 for granted; its place; the value granted.
+#[repr(C)]
+pub struct RomfsResult {
+    pub refusal: u32,
+    pub place: u32,
+    pub value: u32,
+}
+
+// The refusal and its place; the fields of the entry.
+#[repr(C)]
+pub struct RomfsHeader {
+    pub refusal: u32,
+    pub place: u32,
+    pub kind: u32,
+    pub executable: u32,
+    pub info: u32,
+    pub size: u32,
+    pub next: u32,
+    pub namelen: u32,
+}
+
+// The refusal and its place; where the content begins, and its length.
+#[repr(C)]
+pub struct RomfsPart {
+    pub refusal: u32,
+    pub place: u32,
+    pub offset: u32,
+    pub length: u32,
+}
+
+// ---- check and find
+
+fn of_fault(f: Fault) -> RomfsResult
+    ensures { λ r. ⌜ Tells r (toldUnsound f) ⌝ }
+{
+    match f {
+        Fault::Volume(n) => RomfsResult {
+            refusal: n,
+            place: 0,
+            value: 0,
+        },
+        Fault::Header(n, p) => RomfsResult {
+            refusal: n,
+            place: p,
+            value: 0,
+        },
+    }
+}
+
+fn of_check(c: CheckAnswer) -> RomfsResult
+    ensures { λ r. ⌜ Tells r (checkedAnswer c) ⌝ }
+{
+    match c {
+        CheckAnswer::Accepted => RomfsResult {
+            refusal: 0,
+            place: 0,
+            value: 0,
+        },
+        CheckAnswer::Refused(f) => of_fault(f),
+    }
+}
+
+// The first fault of the image.
+#[no_mangle]
+pub extern "C" fn romfs_check(image: &[u8]) -> RomfsResult
+    ensures { λ r. ⌜ Tells r (checked (rules.check (now (image .entry))) (granted 0)) ⌝ }
+{
+    of_check(romfs::check(image))
+}
+
+fn of_find(a: FindAnswer) -> RomfsResult
+    ensures { λ r. ⌜ Tells r (toldFind a) ⌝ }
+{
+    match a {
+        FindAnswer::Found(p) => RomfsResult {
+            refusal: 0,
+            place: 0,
+            value: p,
+        },
+        FindAnswer::Refused(n) => RomfsResult {
+            refusal: n,
+            place: 0,
+            value: 0,
+        },
+        FindAnswer::Inconsistent(f) => of_fault(f),
+    }
+}
+
+// The header of a name in the list of a directory; 0 is the root list.
+#[no_mangle]
+pub extern "C" fn romfs_find(image: &[u8], directory: u32, name: &[u8]) -> RomfsResult
+    ensures { λ r. ⌜ Tells r (answers.find (now (image .entry)) directory (now (name .entry))) ⌝ }
+{
+    of_find(romfs::find(image, directory, name))
+}
+
+// ---- entry
+
+fn no_header(refusal: u32, place: u32) -> RomfsHeader
+    ensures { λ r. ⌜ TellsHeader r (answers.denied refusal place) ⌝ }
+{
+    RomfsHeader {
+        refusal: refusal,
+        place: place,
+        kind: 0,
+        executable: 0,
+        info: 0,
+        size: 0,
+        next: 0,
+        namelen: 0,
+    }
+}
+
+fn fault_header(f: Fault) -> RomfsHeader
+    ensures { λ r. ⌜ TellsHeader r (toldUnsound f) ⌝ }
+{
+    match f {
+        Fault::Volume(n) => no_header(n, 0),
+        Fault::Header(n, p) => no_header(n, p),
+    }
+}
+
+fn of_entry(a: EntryAnswer) -> RomfsHeader
+    ensures { λ r. ⌜ TellsHeader r (toldEntry a) ⌝ }
+{
+    match a {
+        EntryAnswer::Refused(n) => no_header(n, 0),
+        EntryAnswer::Inconsistent(f) => fault_header(f),
+        EntryAnswer::Entry {
+            kind,
+            executable,
+            info,
+            size,
+            next,
+            name_length,
+        } => RomfsHeader {
+            refusal: 0,
+            place: 0,
+            kind: kind,
+            executable: executable,
+            info: info,
+            size: size,
+            next: next,
+            namelen: name_length,
+        },
+    }
+}
+
+// The entry at a header.
+#[no_mangle]
+pub extern "C" fn romfs_entry(image: &[u8], at: u32) -> RomfsHeader
+    ensures { λ r. ⌜ TellsHeader r (answers.entry (now (image .entry)) at) ⌝ }
+{
+    of_entry(romfs::entry(image, at))
+}
+
+// ---- content
+
+fn no_part(f: Fault) -> RomfsPart
+    ensures { λ r. ⌜ TellsPart r 0 (toldUnsound f) ⌝ }
+{
+    match f {
+        Fault::Volume(n) => RomfsPart {
+            refusal: n,
+            place: 0,
+            offset: 0,
+            length: 0,
+        },
+        Fault::Header(n, p) => RomfsPart {
+            refusal: n,
+            place: p,
+            offset: 0,
+            length: 0,
+        },
+    }
+}
+
+fn of_content(image: &[u8], at: u32, a: ContentAnswer) -> RomfsPart
+    requires { ⌜ toldContent a ≡ answers.contentLength (now image) at ⌝ }
+    ensures { λ r. ⌜ TellsPart r (contentAt (now (image .entry)) at) (toldContent a) ⌝ }
+{
+    match a {
+        ContentAnswer::Refused(n) => RomfsPart {
+            refusal: n,
+            place: 0,
+            offset: 0,
+            length: 0,
+        },
+        ContentAnswer::Inconsistent(f) => no_part(f),
+        ContentAnswer::Length(n) => RomfsPart {
+            refusal: 0,
+            place: 0,
+            offset: romfs::content_start(image, at as usize, n as usize) as u32,
+            length: n,
+        },
+    }
+}
+
+// Where the content of a file lies in the image.
+#[no_mangle]
+pub extern "C" fn romfs_content(image: &[u8], at: u32) -> RomfsPart
+    ensures { λ r. ⌜ TellsPart r (contentAt (now (image .entry)) at) (answers.contentLength (now (image .entry)) at) ⌝ }
+{
+    of_content(image, at, romfs::content_length(image, at))
+}

@@ -1,0 +1,223 @@
+// The TFS requests for C. The header is tfs.h; a slice passes as a pointer and then a length.
+ghost use mathlib.Core.Path.{_≡_};
+ghost use Rattle.tfs_rules.specs.Requests as rules;
+ghost use Rattle.tfs_answers.specs.Told.{faultAnswer, answerTold, doneTold, entryTold, EntryFits};
+ghost use Rattle.tfs_c.specs.Result.{checkedAnswer, Tells, TellsEntry, TellsFile, TellsNone, TellsSlot};
+use tfs_answers::Answer;
+use tfs_answers::Done;
+use tfs_answers::Entry;
+use tfs_check::Checked;
+use tfs_check::Fault;
+
+// The refusal's number, 0 for granted; its place; the value granted.
+#[repr(C)]
+pub struct TfsResult {
+    pub refusal: u32,
+    pub place: u32,
+    pub value: u32,
+}
+
+// What list gives of a slot: the refusal and its place; 1 for a file; its inode number, size and name.
+#[repr(C)]
+pub struct TfsSlot {
+    pub refusal: u32,
+    pub place: u32,
+    pub used: u32,
+    pub inode: u32,
+    pub size: u32,
+    pub namelen: u32,
+    pub name: [u8; 16],
+}
+
+fn of_fault(f: Fault) -> TfsResult
+    ensures { λ r. ⌜ Tells r (faultAnswer f) ⌝ }
+{
+    match f {
+        Fault::Header(n) => TfsResult {
+            refusal: n,
+            place: 0,
+            value: 0,
+        },
+        Fault::Slot(n, s) => TfsResult {
+            refusal: n,
+            place: s,
+            value: 0,
+        },
+        Fault::Block(n, b) => TfsResult {
+            refusal: n,
+            place: b,
+            value: 0,
+        },
+    }
+}
+
+fn of_answer(a: Answer) -> TfsResult
+    ensures { λ r. ⌜ Tells r (answerTold a) ⌝ }
+{
+    match a {
+        Answer::Granted(x) => TfsResult {
+            refusal: 0,
+            place: 0,
+            value: x,
+        },
+        Answer::Refused(n) => TfsResult {
+            refusal: n,
+            place: 0,
+            value: 0,
+        },
+        Answer::Inconsistent(f) => of_fault(f),
+    }
+}
+
+fn of_done(d: Done) -> TfsResult
+    ensures { λ r. ⌜ Tells r (doneTold d) ⌝ }
+{
+    match d {
+        Done::Granted => TfsResult {
+            refusal: 0,
+            place: 0,
+            value: 0,
+        },
+        Done::Refused(n) => TfsResult {
+            refusal: n,
+            place: 0,
+            value: 0,
+        },
+        Done::Inconsistent(f) => of_fault(f),
+    }
+}
+
+fn of_checked(c: Checked) -> TfsResult
+    ensures { λ r. ⌜ Tells r (checkedAnswer c) ⌝ }
+{
+    match c {
+        Checked::Consistent => TfsResult {
+            refusal: 0,
+            place: 0,
+            value: 0,
+        },
+        Checked::Refused(f) => of_fault(f),
+    }
+}
+
+// The first broken rule of the volume, at its lowest place.
+#[no_mangle]
+pub extern "C" fn tfs_check(image: &[u8]) -> TfsResult
+    ensures { λ r. ⌜ Tells r (rules.checkAnswer 512 (now (image .entry))) ⌝ }
+{
+    of_checked(tfs_check::check(image))
+}
+
+// An empty volume with this label, whatever the image held.
+#[no_mangle]
+pub extern "C" fn tfs_format(image: &mut [u8], label: &[u8]) -> TfsResult
+    ensures { λ r. ⌜ Tells r (rules.format 512 (now (image .entry)) (now (label .entry)) .answer) × (now (image .exit) ≡ rules.format 512 (now (image .entry)) (now (label .entry)) .image) ⌝ }
+{
+    of_done(tfs_change::format(image, label))
+}
+
+// A file of this name and size, all zeros; the value is its handle.
+#[no_mangle]
+pub extern "C" fn tfs_create(image: &mut [u8], name: &[u8], size: u32) -> TfsResult
+    ensures { λ r. ⌜ Tells r (rules.create 512 (now (image .entry)) (now (name .entry)) size .answer) × (now (image .exit) ≡ rules.create 512 (now (image .entry)) (now (name .entry)) size .image) ⌝ }
+{
+    of_answer(tfs_change::create(image, name, size))
+}
+
+// Removes the file of this name.
+#[no_mangle]
+pub extern "C" fn tfs_remove(image: &mut [u8], name: &[u8]) -> TfsResult
+    ensures { λ r. ⌜ Tells r (rules.remove 512 (now (image .entry)) (now (name .entry)) .answer) × (now (image .exit) ≡ rules.remove 512 (now (image .entry)) (now (name .entry)) .image) ⌝ }
+{
+    of_done(tfs_change::remove(image, name))
+}
+
+// The value is the handle of the file with this name.
+#[no_mangle]
+pub extern "C" fn tfs_open(image: &[u8], name: &[u8]) -> TfsResult
+    ensures { λ r. ⌜ Tells r (rules.openAnswer 512 (now (image .entry)) (now (name .entry))) ⌝ }
+{
+    of_answer(tfs_look::open(image, name))
+}
+
+// Reads from the file's offset on; the value is the count, the rest of the buffer stays.
+#[no_mangle]
+pub extern "C" fn tfs_read(image: &[u8], handle: u32, offset: u32, buf: &mut [u8]) -> TfsResult
+    ensures { λ r. ⌜ Tells r (rules.read 512 (now (image .entry)) handle offset (now (buf .entry)) .answer) × (now (buf .exit) ≡ rules.read 512 (now (image .entry)) handle offset (now (buf .entry)) .buffer) ⌝ }
+{
+    of_answer(tfs_transfer::read(image, handle, offset, buf))
+}
+
+// Writes into the file from the offset on, as far as it reaches; the value is the count.
+#[no_mangle]
+pub extern "C" fn tfs_write(image: &mut [u8], handle: u32, offset: u32, buf: &[u8]) -> TfsResult
+    ensures { λ r. ⌜ Tells r (rules.write 512 (now (image .entry)) handle offset (now (buf .entry)) .answer) × (now (image .exit) ≡ rules.write 512 (now (image .entry)) handle offset (now (buf .entry)) .image) ⌝ }
+{
+    of_answer(tfs_transfer::write(image, handle, offset, buf))
+}
+
+// The value is 512 times the free blocks.
+#[no_mangle]
+pub extern "C" fn tfs_free_bytes(image: &[u8]) -> TfsResult
+    ensures { λ r. ⌜ Tells r (rules.freeAnswer 512 (now (image .entry))) ⌝ }
+{
+    of_answer(tfs_look::free_bytes(image))
+}
+
+// ---- list
+
+// A slot with no file, or the refusal of list.
+fn of_none(refusal: u32, place: u32, name: [u8; 16]) -> TfsSlot
+    ensures { λ r. ⌜ TellsNone r refusal place × (r .name ≡ name) ⌝ }
+{
+    TfsSlot {
+        refusal: refusal,
+        place: place,
+        used: 0,
+        inode: 0,
+        size: 0,
+        namelen: 0,
+        name: name,
+    }
+}
+
+// A slot with a file.
+fn of_file(len: u32, inode: u32, size: u32, name: [u8; 16]) -> TfsSlot
+    ensures { λ r. ⌜ TellsFile r len inode size × (r .name ≡ name) ⌝ }
+{
+    TfsSlot {
+        refusal: 0,
+        place: 0,
+        used: 1,
+        inode: inode,
+        size: size,
+        namelen: len,
+        name: name,
+    }
+}
+
+fn of_entry(e: Entry, name: [u8; 16]) -> TfsSlot
+    requires { ⌜ EntryFits e ⌝ }
+    ensures { λ r. ⌜ TellsEntry r (entryTold e name) × (r .name ≡ name) ⌝ }
+{
+    match e {
+        Entry::Free => of_none(0, 0, name),
+        Entry::Refused(n) => of_none(n, 0, name),
+        Entry::Inconsistent(f) => {
+            let r = of_fault(f);
+            of_none(r.refusal, r.place, name)
+        }
+        Entry::File(len, inode, size) => of_file(len, inode, size, name),
+    }
+}
+
+// What stands in a slot.
+#[no_mangle]
+pub extern "C" fn tfs_list(image: &[u8], slot: u32) -> TfsSlot
+    ensures { λ r. ⌜ TellsSlot r (rules.listAnswer 512 (now (image .entry)) slot) ⌝ }
+{
+    let l = tfs_look::list(image, slot);
+    let entry = l.entry;
+    let name = l.name;
+    of_entry(entry, name)
+}

@@ -1,0 +1,443 @@
+-- Which answer each request gives, in plain facts: one table for each request, with a line for each of its answers.
+-- Each table holds of an answer exactly when the request gives it. The check comes first, so the volume is consistent; of format it is any image.
+use mathlib.Core.Path.{_≡_, refl, sym, ap, _∙_, subst}
+use mathlib.Core.Logic.{_≢_, _↔_}
+use mathlib.Core.Bool.{Bool, true, false, not, cond}
+use Prim.Native.Nat.{ℕ, _+_, _-_, _*_, _≤_, _<_, min}
+use mathlib.Core.List.{List}
+use native.Mathlib.Omega.{arith}
+use native.Mathlib.Decide.{decLt}
+use lib.ListN.{length, getD}
+use lib.Seq.{getD-take}
+use lib.Arith.{le→nltb}
+use lib.Dec.{T, leb, ltb, leb→le, ltb→lt, nltb→le, le→leb, lt→ltb, eqb→eq, T-not, not-T}
+use Rattle.lists.specs.Test.{cond-yes, cond-no, and-of, and-l, and-r, not-not, yes-yes, no-false, to-true, eqb-of, neqb-of}
+use Rattle.lists.specs.Least.{least, least-hit, least-none, least-below, least-all}
+use Rattle.lists.specs.Name.{zeroAt, firstZero}
+use Rattle.tfs_rules.specs.Layout.{BlockSize, slots, maxSize, need, mapBit, labelAllowed, nameAllowed}
+use Rattle.tfs_rules.specs.View.{View, view, free, inode, name, size, slotOf, slotWith, freeSlot, freeBlocks}
+use Rattle.tfs_rules.specs.Check.{consistent, check, tooShort}
+use Rattle.tfs_rules.specs.Consistent.{File, Sound, Consistent}
+use Rattle.tfs_rules.specs.Claims.{count-some}
+use Rattle.tfs_rules.specs.CheckMeans.{check-means, same-means}
+use Rattle.tfs_rules.specs.Room.{free-cursor}
+use Rattle.tfs_rules.specs.Requests.{Answer, done, value, unused, file, refused, granted, Outcome, refuse, openView, openAnswer, freeFrom, chosen, createView, create, removeView, remove, counted, transferView, read, write, listView, listAnswer, format}
+use Rattle.tfs_facts.specs.Names.{slot-hit, slot-miss, slot-is, handle-hit, handle-is, free-hit}
+use Rattle.tfs_laws.specs.Changes.{create-is, remove-is}
+use Rattle.tfs_laws.specs.Handles.{read-answer, write-answer}
+
+-- ---- names
+-- at most 15 bytes, none of them zero: what format takes as the volume's name
+abbrev pub LabelRule : List ℕ → Type 0
+LabelRule l = (length l ≤ 15) × ((i : ℕ) → i < length l → getD l i 0 ≢ 0)
+
+-- 1 to 15 bytes, none of them zero
+abbrev pub NameRule : List ℕ → Type 0
+NameRule nm = (1 ≤ length nm) × LabelRule nm
+
+-- a list with no zero byte has its first zero at its end
+no-zero : (l : List ℕ) → ((i : ℕ) → i < length l → getD l i 0 ≢ 0) → firstZero l ≡ length l
+unfolding firstZero zeroAt
+no-zero l h = least-all (zeroAt l) (length l) (λ i k. neqb-of (getD l i 0) 0 (h i k))
+
+zero-free : (l : List ℕ) → firstZero l ≡ length l → (i : ℕ) → i < length l → getD l i 0 ≢ 0
+unfolding firstZero zeroAt
+zero-free l e i h z = T-not (zeroAt l i) (least-below (zeroAt l) (length l) i (omega arith)) (eqb-of z)
+
+pub label-allowed : (l : List ℕ) → T (labelAllowed l) ↔ LabelRule l
+unfolding labelAllowed
+label-allowed l = (
+  (λ t.
+      let s : length l < 16 = ltb→lt (length l) 16 (and-l (ltb (length l) 16) _ t) in
+      (omega arith, zero-free l (eqb→eq (firstZero l) (length l) (and-r (ltb (length l) 16) _ t)))),
+  λ r. and-of (ltb (length l) 16) _ (lt→ltb (length l) 16 (omega (arith, r .0))) (eqb-of (no-zero l (r .1))),
+)
+
+pub name-allowed : (nm : List ℕ) → T (nameAllowed nm) ↔ NameRule nm
+unfolding nameAllowed
+name-allowed nm = (
+  (λ t. (leb→le 1 (length nm) (and-l (leb 1 (length nm)) _ t), label-allowed nm .0 (and-r (leb 1 (length nm)) _ t))),
+  λ r. and-of (leb 1 (length nm)) _ (le→leb 1 (length nm) (r .0)) (label-allowed nm .1 (r .1)),
+)
+
+-- ---- the file of a name, of a handle, and free slots and blocks
+-- the file in slot s has the name nm
+pub record Stands (B : ℕ) (v : View) (nm : List ℕ) (s : ℕ) : Type 0 where
+  pub file : File B v s
+  pub named : name v s ≡ nm
+
+-- no file has the name nm
+abbrev pub Fresh : ℕ → View → List ℕ → Type 0
+Fresh B v nm = (s : ℕ) → Stands B v nm s → ⊥
+
+-- the file in slot s has the inode number h
+pub record Handled (B : ℕ) (v : View) (h s : ℕ) : Type 0 where
+  pub file : File B v s
+  pub number : inode v s ≡ h
+
+-- slot s is free
+pub record Vacant (B : ℕ) (v : View) (s : ℕ) : Type 0 where
+  pub slot : s < slots B
+  pub free : T (free v s)
+
+-- h is the lowest block of the volume that the map does not mark
+pub record LowestBlock (v : View) (h : ℕ) : Type 0 where
+  pub below : h < v .n
+  pub clear : mapBit (v .map) h ≡ false
+  pub marked : (i : ℕ) → i < h → mapBit (v .map) i ≡ true
+
+module _ (B : ℕ) (v : View) (nm : List ℕ) where
+  pub stands-hit : slotOf B v nm < slots B → Stands B v nm (slotOf B v nm)
+  stands-hit h =
+      let f = slot-hit B v nm h in
+      record { file = f .0; named = same-means (name v (slotOf B v nm)) nm .0 (f .1) }
+
+  pub stands-miss : slots B ≤ slotOf B v nm → Fresh B v nm
+  stands-miss h s st = slot-miss B v nm h s (st .file) (same-means (name v s) nm .1 (st .named))
+
+  pub stands-at : Sound B v → (s : ℕ) → Stands B v nm s → slotOf B v nm ≡ s
+  stands-at ok s st = slot-is B v nm (ok .apart) s (st .file) (same-means (name v s) nm .1 (st .named))
+
+  pub stands-low : Sound B v → (s : ℕ) → Stands B v nm s → slotOf B v nm < slots B
+  stands-low ok s st = subst (λ (x : ℕ). x < slots B) (sym (stands-at ok s st)) (st .file .slot)
+
+  pub fresh-high : Fresh B v nm → slots B ≤ slotOf B v nm
+  fresh-high none = elim (decLt (slotOf B v nm) (slots B)) [ yes h ↦ absurd (none (slotOf B v nm) (stands-hit h)) | no h ↦ omega arith ]
+
+module _ (B : ℕ) (v : View) (h : ℕ) where
+  pub handled-hit : slotWith B v h < slots B → Handled B v h (slotWith B v h)
+  handled-hit l = let f = handle-hit B v h l in record { file = f .0; number = f .1 }
+
+  pub handled-at : Sound B v → (s : ℕ) → Handled B v h s → slotWith B v h ≡ s
+  handled-at ok s f = handle-is B v h ok s (f .file) (f .number)
+
+  pub handled-low : Sound B v → (s : ℕ) → Handled B v h s → slotWith B v h < slots B
+  handled-low ok s f = subst (λ (x : ℕ). x < slots B) (sym (handled-at ok s f)) (f .file .slot)
+
+  pub unhandled-high : ((s : ℕ) → Handled B v h s → ⊥) → slots B ≤ slotWith B v h
+  unhandled-high none = elim (decLt (slotWith B v h) (slots B)) [ yes l ↦ absurd (none (slotWith B v h) (handled-hit l)) | no l ↦ omega arith ]
+
+module _ (B : ℕ) (v : View) where
+  pub vacant-hit : freeSlot B v < slots B → Vacant B v (freeSlot B v)
+  vacant-hit h = record { slot = h; free = free-hit B v h }
+
+  pub vacant-low : (s : ℕ) → Vacant B v s → freeSlot B v < slots B
+  unfolding freeSlot
+  vacant-low s f =
+      elim (decLt (least (free v) (slots B)) (slots B)) [
+        | yes h ↦ h
+        | no h ↦ absurd (T-not (free v s) (least-none (free v) (slots B) (omega arith) s (f .slot)) (f .free))
+      ]
+
+  -- the lowest free block comes first among the free ones
+  lowest-first : (h : ℕ) → LowestBlock v h → (z : ℕ) → getD (chosen B v z) 0 0 ≡ h
+  unfolding chosen
+  lowest-first h l z =
+      getD-take (1 + need B z) (freeFrom (v .map) 0 (v .n)) 0 0 (omega arith)
+      ∙ ap (λ (x : List ℕ). getD x 0 0)
+      (free-cursor (v .map) 0 (v .n) h (record { low = omega arith; high = omega (arith, l .below); clear = l .clear }) (λ i _ k. l .marked i k))
+
+-- where there is room there is a lowest free block
+pub lowest-block : (v : View) → 1 ≤ freeBlocks v → (h : ℕ) × LowestBlock v h
+unfolding freeBlocks
+lowest-block v room =
+    let f : ℕ → Bool = λ b. not (mapBit (v .map) b) in
+    let some = count-some f (v .n) room in
+    let l : least f (v .n) < v .n =
+    elim (decLt (least f (v .n)) (v .n)) [
+      | yes h ↦ h
+      | no h ↦ absurd (T-not (f (some .0)) (least-none f (v .n) (omega arith) (some .0) (some .1)) (some .2))
+    ]
+    in (
+      least f (v .n),
+      record {
+        below = l;
+        clear = no-false (mapBit (v .map) (least f (v .n))) (least-hit f (v .n) l);
+        marked = λ i k. to-true (mapBit (v .map) i) (not-not (mapBit (v .map) i) (least-below f (v .n) i k));
+      },
+    )
+
+-- ---- one choice of an answer
+by-choice {ℓ} : {X : Type ℓ} (b : Bool) (x y : X) (P : X → Type 0) → (T b → P x) → (T (not b) → P y) → P (cond b x y)
+by-choice true x y P f g = f tt
+by-choice false x y P f g = g tt
+
+-- past the test of the name
+past-name : (nm : List ℕ) → NameRule nm → (x : Answer) → cond (not (nameAllowed nm)) (refused 8 0) x ≡ x
+past-name nm r x = cond-no (not (nameAllowed nm)) (refused 8 0) x (yes-yes (nameAllowed nm) (name-allowed nm .1 r))
+
+-- ---- open and remove
+pub data FindRule (B : ℕ) (v : View) (nm : List ℕ) (grant : ℕ → Answer) : Answer → Type 0 where
+  -- 8: "name empty, over 15 bytes, or holding a zero byte"
+  misnamed : (NameRule nm → ⊥) → FindRule B v nm grant (refused 8 0)
+  -- 13: "name doesn't stand"
+  absent : NameRule nm → Fresh B v nm → FindRule B v nm grant (refused 13 0)
+  -- granted, on the file in slot s
+  found : (s : ℕ) → NameRule nm → Stands B v nm s → FindRule B v nm grant (grant s)
+
+-- the answer of open, and that of remove, by the slot of the name
+abbrev findAnswer : ℕ → View → List ℕ → (ℕ → Answer) → Answer
+findAnswer B v nm grant =
+    cond (not (nameAllowed nm)) (refused 8 0) (cond (not (ltb (slotOf B v nm) (slots B))) (refused 13 0) (grant (slotOf B v nm)))
+
+module _ (B : ℕ) (v : View) (ok : Sound B v) (nm : List ℕ) (grant : ℕ → Answer) where
+  find-holds : FindRule B v nm grant (findAnswer B v nm grant)
+  find-holds =
+      by-choice (not (nameAllowed nm)) _ _ (FindRule B v nm grant)
+      (λ t. misnamed (λ r. T-not (nameAllowed nm) t (name-allowed nm .1 r)))
+      (λ t.
+      let r : NameRule nm = name-allowed nm .0 (not-not (nameAllowed nm) t) in
+      by-choice (not (ltb (slotOf B v nm) (slots B))) _ _ (FindRule B v nm grant)
+      (λ u. absent r (stands-miss B v nm (nltb→le (slotOf B v nm) (slots B) u)))
+      (λ u. found (slotOf B v nm) r (stands-hit B v nm (ltb→lt (slotOf B v nm) (slots B) (not-not (ltb (slotOf B v nm) (slots B)) u)))))
+
+  find-only : (a : Answer) → FindRule B v nm grant a → findAnswer B v nm grant ≡ a
+  find-only _ (misnamed h) = cond-yes (not (nameAllowed nm)) (refused 8 0) _ (not-T (nameAllowed nm) (λ t. h (name-allowed nm .0 t)))
+  find-only _ (absent r none) =
+      past-name nm r _
+      ∙ cond-yes (not (ltb (slotOf B v nm) (slots B))) (refused 13 0) _ (le→nltb (slotOf B v nm) (slots B) (fresh-high B v nm none))
+  find-only _ (found s r st) =
+      past-name nm r _
+      ∙ cond-no (not (ltb (slotOf B v nm) (slots B))) (refused 13 0) _ (yes-yes (ltb (slotOf B v nm) (slots B)) (lt→ltb (slotOf B v nm) (slots B) (stands-low B v nm ok s st)))
+      ∙ ap grant (stands-at B v nm ok s st)
+
+  find-rule : (a : Answer) → (findAnswer B v nm grant ≡ a) ↔ FindRule B v nm grant a
+  find-rule a = ((λ e. subst (FindRule B v nm grant) e find-holds), find-only a)
+
+-- ---- create
+pub data CreateRule (B : ℕ) (v : View) (nm : List ℕ) (z : ℕ) : Answer → Type 0 where
+  -- 8: "name empty, over 15 bytes, or holding a zero byte"
+  unnamed : (NameRule nm → ⊥) → CreateRule B v nm z (refused 8 0)
+  -- 9: "size over 65,024"
+  oversized : NameRule nm → maxSize B < z → CreateRule B v nm z (refused 9 0)
+  -- 10: "name stands already"
+  standing : (s : ℕ) → NameRule nm → z ≤ maxSize B → Stands B v nm s → CreateRule B v nm z (refused 10 0)
+  -- 11: "no free slot"
+  full : NameRule nm → z ≤ maxSize B → Fresh B v nm → ((s : ℕ) → Vacant B v s → ⊥) → CreateRule B v nm z (refused 11 0)
+  -- 12: "fewer than 1 + ⌈size/512⌉ zero bits below N"
+  cramped : (s : ℕ) → NameRule nm → z ≤ maxSize B → Fresh B v nm → Vacant B v s → freeBlocks v < 1 + need B z → CreateRule B v nm z (refused 12 0)
+  -- granted: "lowest free block becomes the inode"; "Result: the inode number"
+  created : (s h : ℕ) → NameRule nm → z ≤ maxSize B → Fresh B v nm → Vacant B v s → 1 + need B z ≤ freeBlocks v → LowestBlock v h → CreateRule B v nm z (value h)
+
+module _ (B : ℕ) (v : View) (ok : Sound B v) (nm : List ℕ) (z : ℕ) where
+  create-holds : CreateRule B v nm z (createView B v nm z)
+  unfolding createView
+  create-holds =
+      by-choice (not (nameAllowed nm)) _ _ (CreateRule B v nm z)
+      (λ t. unnamed (λ r. T-not (nameAllowed nm) t (name-allowed nm .1 r)))
+      (λ t.
+      let r : NameRule nm = name-allowed nm .0 (not-not (nameAllowed nm) t) in
+      by-choice (ltb (maxSize B) z) _ _ (CreateRule B v nm z)
+      (λ t. oversized r (ltb→lt (maxSize B) z t))
+      (λ t.
+      let small : z ≤ maxSize B = nltb→le (maxSize B) z t in
+      by-choice (ltb (slotOf B v nm) (slots B)) _ _ (CreateRule B v nm z)
+      (λ t. standing (slotOf B v nm) r small (stands-hit B v nm (ltb→lt (slotOf B v nm) (slots B) t)))
+      (λ t.
+      let fresh : Fresh B v nm = stands-miss B v nm (nltb→le (slotOf B v nm) (slots B) t) in
+      by-choice (not (ltb (freeSlot B v) (slots B))) _ _ (CreateRule B v nm z)
+      (λ t. full r small fresh (λ s f. omega (arith, vacant-low B v s f, nltb→le (freeSlot B v) (slots B) t)))
+      (λ t.
+      let slot : Vacant B v (freeSlot B v) = vacant-hit B v (ltb→lt (freeSlot B v) (slots B) (not-not (ltb (freeSlot B v) (slots B)) t)) in
+      by-choice (ltb (freeBlocks v) (1 + need B z)) _ _ (CreateRule B v nm z)
+      (λ t. cramped (freeSlot B v) r small fresh slot (ltb→lt (freeBlocks v) (1 + need B z) t))
+      (λ t.
+      let room : 1 + need B z ≤ freeBlocks v = nltb→le (freeBlocks v) (1 + need B z) t in
+      let low = lowest-block v (omega arith) in
+      subst (λ (h : ℕ). CreateRule B v nm z (value h)) (sym (lowest-first B v (low .0) (low .1) z)) (created (freeSlot B v) (low .0) r small fresh slot room (low .1)))))))
+
+  -- past the other tests
+  past-size : z ≤ maxSize B → (x : Answer) → cond (ltb (maxSize B) z) (refused 9 0) x ≡ x
+  past-size h x = cond-no (ltb (maxSize B) z) (refused 9 0) x (le→nltb (maxSize B) z h)
+
+  past-fresh : Fresh B v nm → (x : Answer) → cond (ltb (slotOf B v nm) (slots B)) (refused 10 0) x ≡ x
+  past-fresh h x = cond-no (ltb (slotOf B v nm) (slots B)) (refused 10 0) x (le→nltb (slotOf B v nm) (slots B) (fresh-high B v nm h))
+
+  past-slot : (s : ℕ) → Vacant B v s → (x : Answer) → cond (not (ltb (freeSlot B v) (slots B))) (refused 11 0) x ≡ x
+  past-slot s h x = cond-no (not (ltb (freeSlot B v) (slots B))) (refused 11 0) x (yes-yes (ltb (freeSlot B v) (slots B)) (lt→ltb (freeSlot B v) (slots B) (vacant-low B v s h)))
+
+  create-only : (a : Answer) → CreateRule B v nm z a → createView B v nm z ≡ a
+  unfolding createView
+  create-only _ (unnamed h) = cond-yes (not (nameAllowed nm)) (refused 8 0) _ (not-T (nameAllowed nm) (λ t. h (name-allowed nm .0 t)))
+  create-only _ (oversized r h) = past-name nm r _ ∙ cond-yes (ltb (maxSize B) z) (refused 9 0) _ (lt→ltb (maxSize B) z h)
+  create-only _ (standing s r k st) =
+      past-name nm r _ ∙ past-size k _ ∙ cond-yes (ltb (slotOf B v nm) (slots B)) (refused 10 0) _ (lt→ltb (slotOf B v nm) (slots B) (stands-low B v nm ok s st))
+  create-only _ (full r k f none) =
+      past-name nm r _
+      ∙ past-size k _
+      ∙ past-fresh f _
+      ∙ cond-yes (not (ltb (freeSlot B v) (slots B))) (refused 11 0) _ (not-T (ltb (freeSlot B v) (slots B)) (λ t. none (freeSlot B v) (vacant-hit B v (ltb→lt (freeSlot B v) (slots B) t))))
+  create-only _ (cramped s r k f w h) =
+      past-name nm r _
+      ∙ past-size k _
+      ∙ past-fresh f _
+      ∙ past-slot s w _
+      ∙ cond-yes (ltb (freeBlocks v) (1 + need B z)) (refused 12 0) _ (lt→ltb (freeBlocks v) (1 + need B z) h)
+  create-only _ (created s h r k f w room low) =
+      past-name nm r _
+      ∙ past-size k _
+      ∙ past-fresh f _
+      ∙ past-slot s w _
+      ∙ cond-no (ltb (freeBlocks v) (1 + need B z)) (refused 12 0) _ (le→nltb (freeBlocks v) (1 + need B z) room)
+      ∙ ap value (lowest-first B v h low z)
+
+  create-rule : (a : Answer) → (createView B v nm z ≡ a) ↔ CreateRule B v nm z a
+  create-rule a = ((λ e. subst (CreateRule B v nm z) e create-holds), create-only a)
+
+-- ---- read and write
+pub data TransferRule (B : ℕ) (v : View) (h o len : ℕ) : Answer → Type 0 where
+  -- 14: "handle is no used slot's inode number"
+  unhandled : ((s : ℕ) → Handled B v h s → ⊥) → TransferRule B v h o len (refused 14 0)
+  -- 15: "offset greater than size"
+  beyond : (s : ℕ) → Handled B v h s → size v s < o → TransferRule B v h o len (refused 15 0)
+  -- granted: "count = smaller of buffer length and size − offset"
+  moved : (s : ℕ) → Handled B v h s → o ≤ size v s → TransferRule B v h o len (value (min len (size v s - o)))
+
+module _ (B : ℕ) (v : View) (ok : Sound B v) (h o len : ℕ) where
+  transfer-holds : TransferRule B v h o len (transferView B v h o len)
+  unfolding transferView counted
+  transfer-holds =
+      by-choice (not (ltb (slotWith B v h) (slots B))) _ _ (TransferRule B v h o len)
+      (λ t. unhandled (λ s f. omega (arith, handled-low B v h ok s f, nltb→le (slotWith B v h) (slots B) t)))
+      (λ t.
+      let f : Handled B v h (slotWith B v h) = handled-hit B v h (ltb→lt (slotWith B v h) (slots B) (not-not (ltb (slotWith B v h) (slots B)) t)) in
+      by-choice (ltb (size v (slotWith B v h)) o) _ _ (TransferRule B v h o len)
+      (λ u. beyond (slotWith B v h) f (ltb→lt (size v (slotWith B v h)) o u))
+      (λ u. moved (slotWith B v h) f (nltb→le (size v (slotWith B v h)) o u)))
+
+  past-handle : (s : ℕ) → Handled B v h s → (x : ℕ → Answer) → cond (not (ltb (slotWith B v h) (slots B))) (refused 14 0) (x (slotWith B v h)) ≡ x s
+  past-handle s f x =
+      cond-no (not (ltb (slotWith B v h) (slots B))) (refused 14 0) _ (yes-yes (ltb (slotWith B v h) (slots B)) (lt→ltb (slotWith B v h) (slots B) (handled-low B v h ok s f)))
+      ∙ ap x (handled-at B v h ok s f)
+
+  transfer-only : (a : Answer) → TransferRule B v h o len a → transferView B v h o len ≡ a
+  unfolding transferView counted
+  transfer-only _ (unhandled none) =
+      cond-yes (not (ltb (slotWith B v h) (slots B))) (refused 14 0) _ (le→nltb (slotWith B v h) (slots B) (unhandled-high B v h none))
+  transfer-only _ (beyond s f l) =
+      past-handle s f (λ t. cond (ltb (size v t) o) (refused 15 0) (value (min len (size v t - o)))) ∙ cond-yes (ltb (size v s) o) (refused 15 0) _ (lt→ltb (size v s) o l)
+  transfer-only _ (moved s f l) =
+      past-handle s f (λ t. cond (ltb (size v t) o) (refused 15 0) (value (min len (size v t - o)))) ∙ cond-no (ltb (size v s) o) (refused 15 0) _ (le→nltb (size v s) o l)
+
+  transfer-rule : (a : Answer) → (transferView B v h o len ≡ a) ↔ TransferRule B v h o len a
+  transfer-rule a = ((λ e. subst (TransferRule B v h o len) e transfer-holds), transfer-only a)
+
+-- ---- list
+pub data ListRule (B : ℕ) (v : View) (s : ℕ) : Answer → Type 0 where
+  -- 14: "slot over 24"
+  outside : slots B ≤ s → ListRule B v s (refused 14 0)
+  -- "a free slot, or name, inode number and size"
+  vacant : Vacant B v s → ListRule B v s unused
+  holds : File B v s → ListRule B v s (file (name v s) (inode v s) (size v s))
+
+module _ (B : ℕ) (v : View) (s : ℕ) where
+  list-holds : ListRule B v s (listView B v s)
+  unfolding listView
+  list-holds =
+      by-choice (not (ltb s (slots B))) _ _ (ListRule B v s) (λ t. outside (nltb→le s (slots B) t))
+      (λ t.
+      let l : s < slots B = ltb→lt s (slots B) (not-not (ltb s (slots B)) t) in
+      by-choice (free v s) _ _ (ListRule B v s) (λ u. vacant (record { slot = l; free = u })) (λ u. holds (record { slot = l; taken = u })))
+
+  past-slots : s < slots B → (x : Answer) → cond (not (ltb s (slots B))) (refused 14 0) x ≡ x
+  past-slots l x = cond-no (not (ltb s (slots B))) (refused 14 0) x (yes-yes (ltb s (slots B)) (lt→ltb s (slots B) l))
+
+  list-only : (a : Answer) → ListRule B v s a → listView B v s ≡ a
+  unfolding listView
+  list-only _ (outside l) = cond-yes (not (ltb s (slots B))) (refused 14 0) _ (le→nltb s (slots B) l)
+  list-only _ (vacant f) = past-slots (f .slot) _ ∙ cond-yes (free v s) unused _ (f .free)
+  list-only _ (holds f) = past-slots (f .slot) _ ∙ cond-no (free v s) unused _ (f .taken)
+
+  list-rule : (a : Answer) → (listView B v s ≡ a) ↔ ListRule B v s a
+  list-rule a = ((λ e. subst (ListRule B v s) e list-holds), list-only a)
+
+-- ---- format, of any image
+pub data FormatRule (B : ℕ) (img label : List ℕ) : Answer → Type 0 where
+  -- 1: "image under 1,536 bytes"
+  short : length img < 3 * B → FormatRule B img label (refused 1 0)
+  -- 8: "format allows empty"
+  unlabelled : 3 * B ≤ length img → (LabelRule label → ⊥) → FormatRule B img label (refused 8 0)
+  -- granted
+  formatted : 3 * B ≤ length img → LabelRule label → FormatRule B img label done
+
+module _ (B : ℕ) (img label : List ℕ) where
+  format-holds : FormatRule B img label (format B img label .answer)
+  unfolding format tooShort
+  format-holds =
+      by-choice (ltb (length img) (3 * B)) _ _ (λ (o : Outcome). FormatRule B img label (o .answer)) (λ t. short (ltb→lt (length img) (3 * B) t))
+      (λ t.
+      let l : 3 * B ≤ length img = nltb→le (length img) (3 * B) t in
+      by-choice (not (labelAllowed label)) _ _ (λ (o : Outcome). FormatRule B img label (o .answer))
+      (λ u. unlabelled l (λ r. T-not (labelAllowed label) u (label-allowed label .1 r)))
+      (λ u. formatted l (label-allowed label .0 (not-not (labelAllowed label) u))))
+
+  past-short : 3 * B ≤ length img → (x : Outcome) → cond (ltb (length img) (3 * B)) (refuse img 1) x .answer ≡ x .answer
+  past-short l x = ap (λ (o : Outcome). o .answer) (cond-no (ltb (length img) (3 * B)) (refuse img 1) x (le→nltb (length img) (3 * B) l))
+
+  format-only : (a : Answer) → FormatRule B img label a → format B img label .answer ≡ a
+  unfolding format tooShort
+  format-only _ (short l) = ap (λ (o : Outcome). o .answer) (cond-yes (ltb (length img) (3 * B)) (refuse img 1) _ (lt→ltb (length img) (3 * B) l))
+  format-only _ (unlabelled l h) =
+      past-short l _ ∙ ap (λ (o : Outcome). o .answer) (cond-yes (not (labelAllowed label)) (refuse img 8) _ (not-T (labelAllowed label) (λ t. h (label-allowed label .0 t))))
+  format-only _ (formatted l r) =
+      past-short l _ ∙ ap (λ (o : Outcome). o .answer) (cond-no (not (labelAllowed label)) (refuse img 8) _ (yes-yes (labelAllowed label) (label-allowed label .1 r)))
+
+  pub format-rule : (a : Answer) → (format B img label .answer ≡ a) ↔ FormatRule B img label a
+  format-rule a = ((λ e. subst (FormatRule B img label) e format-holds), format-only a)
+
+-- ---- the requests on a consistent volume
+-- the table of each request
+pub record GrantLaw (B : ℕ) (img : List ℕ) : Type 0 where
+  pub on-open : (nm : List ℕ) (a : Answer) → (openAnswer B img nm ≡ a) ↔ FindRule B (view B img) nm (λ s. value (inode (view B img) s)) a
+  pub on-create : (nm : List ℕ) (z : ℕ) (a : Answer) → (create B img nm z .answer ≡ a) ↔ CreateRule B (view B img) nm z a
+  pub on-remove : (nm : List ℕ) (a : Answer) → (remove B img nm .answer ≡ a) ↔ FindRule B (view B img) nm (λ s. done) a
+  pub on-read : (h o : ℕ) (buf : List ℕ) (a : Answer) → (read B img h o buf .answer ≡ a) ↔ TransferRule B (view B img) h o (length buf) a
+  pub on-write : (h o : ℕ) (buf : List ℕ) (a : Answer) → (write B img h o buf .answer ≡ a) ↔ TransferRule B (view B img) h o (length buf) a
+  pub on-list : (s : ℕ) (a : Answer) → (listAnswer B img s ≡ a) ↔ ListRule B (view B img) s a
+
+iff-at : (x y a : Answer) (P : Type 0) → x ≡ y → ((y ≡ a) ↔ P) → ((x ≡ a) ↔ P)
+iff-at x y a P e h = ((λ d. h .0 (sym e ∙ d)), λ p. e ∙ h .1 p)
+
+pub grants : (B : ℕ) → BlockSize B → (img : List ℕ) → Consistent B img → GrantLaw B img
+unfolding openAnswer openView removeView listAnswer
+grants B sz img ok =
+    let v : View = view B img in
+    let passed : check B img ≡ consistent = check-means B sz img .1 ok in
+    record {
+      on-open = λ nm a.
+          iff-at (openAnswer B img nm) (openView B v nm) a _ (rw passed) (find-rule B v (ok .sound) nm (λ s. value (inode v s)) a);
+      on-create = λ nm z a.
+          iff-at (create B img nm z .answer) (createView B v nm z) a _ (ap (λ (o : Outcome). o .answer) (create-is B img passed nm z)) (create-rule B v (ok .sound) nm z a);
+      on-remove = λ nm a.
+          iff-at (remove B img nm .answer) (removeView B v nm) a _ (ap (λ (o : Outcome). o .answer) (remove-is B img passed nm)) (find-rule B v (ok .sound) nm (λ s. done) a);
+      on-read = λ h o buf a.
+          iff-at (read B img h o buf .answer) (transferView B v h o (length buf)) a _ (read-answer B img passed h o buf) (transfer-rule B v (ok .sound) h o (length buf) a);
+      on-write = λ h o buf a.
+          iff-at (write B img h o buf .answer) (transferView B v h o (length buf)) a _ (write-answer B img passed h o buf) (transfer-rule B v (ok .sound) h o (length buf) a);
+      on-list = λ s a. iff-at (listAnswer B img s) (listView B v s) a _ (rw passed) (list-rule B v s a);
+    }
+
+-- create is granted exactly when all five tests are passed
+pub record CreateGranted (B : ℕ) (v : View) (nm : List ℕ) (z : ℕ) : Type 0 where
+  pub named : NameRule nm
+  pub small : z ≤ maxSize B
+  pub fresh : Fresh B v nm
+  pub slot : (s : ℕ) × Vacant B v s
+  pub room : 1 + need B z ≤ freeBlocks v
+
+granted-five : (B : ℕ) (v : View) (nm : List ℕ) (z : ℕ) (a : Answer) → CreateRule B v nm z a → T (granted a) → CreateGranted B v nm z
+granted-five B v nm z _ (unnamed h) t = absurd t
+granted-five B v nm z _ (oversized r h) t = absurd t
+granted-five B v nm z _ (standing s r k st) t = absurd t
+granted-five B v nm z _ (full r k f none) t = absurd t
+granted-five B v nm z _ (cramped s r k f w h) t = absurd t
+granted-five B v nm z _ (created s h r k f w room low) t = record { named = r; small = k; fresh = f; slot = (s, w); room = room }
+
+pub create-grants : (B : ℕ) → BlockSize B → (img : List ℕ) → Consistent B img → (nm : List ℕ) (z : ℕ) → T (granted (create B img nm z .answer)) ↔ CreateGranted B (view B img) nm z
+create-grants B sz img ok nm z =
+    let law = grants B sz img ok .on-create nm z in (
+      (λ t. granted-five B (view B img) nm z (create B img nm z .answer) (law (create B img nm z .answer) .0 refl) t),
+      λ g.
+          let low = lowest-block (view B img) (omega (arith, g .room)) in
+          subst (λ (a : Answer). T (granted a)) (sym (law (value (low .0)) .1 (created (g .slot .0) (low .0) (g .named) (g .small) (g .fresh) (g .slot .1) (g .room) (low .1)))) tt,
+    )

@@ -1,0 +1,293 @@
+-- Two images that differ at most in what the rules ignore differ in no more after any request out of create, remove and write, nor after any number of them.
+use mathlib.Core.Path.{_≡_, sym, ap, _∙_, subst, subst₂}
+use mathlib.Core.Logic.{_≢_, _⊎_, inl, inr, ⊎-elim}
+use mathlib.Core.Bool.{not}
+use Prim.Native.Nat.{ℕ, zero, suc, _+_, _-_, _*_, _/_, _%_, _≤_, _<_}
+use mathlib.Core.List.{List, [], _∷_}
+use native.Mathlib.Omega.{arith}
+use native.Mathlib.Nat.{mul-le-mul-right}
+use native.Mathlib.Decide.{ℕ-discrete, decLt}
+use lib.ListN.{length, getD, set, take, length-set}
+use lib.Seq.{getD-set-same, getD-set-other, set-out}
+use lib.Arith.{digits-div}
+use lib.Dec.{T}
+use Rattle.lists.specs.Test.{by-test}
+use Rattle.lists.specs.Store.{storeAt}
+use Rattle.lists.specs.Part.{part, part-ext}
+use Rattle.tfs_rules.specs.Layout.{BlockSize, slots, need, blocks, block, slot, mapBit}
+use Rattle.tfs_rules.specs.View.{View, view, size, slotOf, slotWith, freeSlot, place}
+use Rattle.tfs_rules.specs.Check.{check, consistent, fileClaims}
+use Rattle.tfs_rules.specs.Consistent.{File, Consistent}
+use Rattle.tfs_rules.specs.CheckMeans.{check-means}
+use Rattle.tfs_rules.specs.Requests.{Answer, granted, chosen, create, remove, write}
+use Rattle.tfs_facts.specs.Sizes.{apart-blocks}
+use Rattle.tfs_facts.specs.Views.{view-head, view-map, view-dir}
+use Rattle.tfs_facts.specs.Stores.{length-block, block-byte}
+use Rattle.tfs_facts.specs.MapBits.{In, in-dec, in-at}
+use Rattle.tfs_laws.specs.Writes.{step}
+use Rattle.tfs_laws.specs.Places.{filesOf, blocks-eq}
+use Rattle.tfs_laws.specs.WriteLists.{wr, request, putOf, request-image, request-view, request-length}
+use Rattle.tfs_laws.specs.Removes.{low-inside}
+use Rattle.tfs_laws.specs.Changes.{Change, creates, removes, writes, perform, refused-keeps, remove-granted}
+use Rattle.tfs_laws.specs.Kept.{KeptLaw, create-kept, remove-kept, granted-passed}
+use Rattle.tfs_laws.specs.Ignored.{SameRead, Alike, alike, size-alike, number-alike, inode-alike, slot-of-alike, slot-with-alike, free-slot-alike, chosen-alike, ignored}
+use Rattle.tfs_laws.specs.Grants.{Stands, stands-hit}
+use Rattle.tfs_laws.specs.Touches.{BlockOf, block-claimed, claimed-block, RemoveTouch, remove-touches, CreateTouch, created-touch}
+use Rattle.tfs_laws.specs.HandleSteps.{afterAll}
+
+-- ---- a byte that two images have in common they have after the same stores
+set-same : (a b : List ℕ) (j x q : ℕ) → length a ≡ length b → getD a q 0 ≡ getD b q 0 → getD (set a j x) q 0 ≡ getD (set b j x) q 0
+set-same a b j x q l e =
+    elim (ℕ-discrete q j) [
+      | yes d ↦ elim (decLt j (length a)) [
+        | yes h ↦
+            subst (λ (k : ℕ). getD (set a j x) k 0 ≡ getD (set b j x) k 0) (sym d)
+            (getD-set-same a j x 0 h ∙ sym (getD-set-same b j x 0 (omega arith)))
+        | no h ↦ (ap (λ (y : List ℕ). getD y q 0) (set-out a j x (omega arith)) ∙ e ∙ sym (ap (λ (y : List ℕ). getD y q 0) (set-out b j x (omega arith))))
+      ]
+      | no d ↦ getD-set-other a j q x 0 d ∙ e ∙ sym (getD-set-other b j q x 0 d)
+    ]
+
+store-same : (at : ℕ → ℕ) (bs a b : List ℕ) (o q : ℕ) → length a ≡ length b → getD a q 0 ≡ getD b q 0 → getD (storeAt at a o bs) q 0 ≡ getD (storeAt at b o bs) q 0
+store-same at [] a b o q l e = e
+store-same at (x ∷ bs) a b o q l e =
+    store-same at bs (set a (at o) x) (set b (at o) x) (suc o) q (length-set a (at o) x ∙ l ∙ sym (length-set b (at o) x)) (set-same a b (at o) x q l e)
+
+-- ---- blocks and slots of which each byte is the same
+block-ext : (B : ℕ) (x y : List ℕ) (i : ℕ) → length x ≡ length y → ((r : ℕ) → r < B → getD x (i * B + r) 0 ≡ getD y (i * B + r) 0) → block B x i ≡ block B y i
+unfolding block
+block-ext B x y i l h = part-ext (i * B) B x y l h
+
+slot-ext : (t : ℕ) (x y : List ℕ) → length x ≡ length y → ((i : ℕ) → i < 20 → getD x (t * 20 + i) 0 ≡ getD y (t * 20 + i) 0) → slot x t ≡ slot y t
+unfolding slot
+slot-ext t x y l h = part-ext (t * 20) 20 x y l h
+
+slot-kept : (s t : ℕ) (x y : List ℕ) → length x ≡ length y → t ≢ s → ((i : ℕ) → (i < s * 20) ⊎ (s * 20 + 20 ≤ i) → getD x i 0 ≡ getD y i 0) → slot x t ≡ slot y t
+slot-kept s t x y l d h =
+    slot-ext t x y l
+    (λ i k. h (t * 20 + i) (⊎-elim (λ e. inl (omega arith)) (λ e. inr (omega arith)) (apart-blocks 20 s t (λ e. d (sym e)))))
+
+-- an image that a request leaves has a directory as long as before
+dir-long : (B : ℕ) (x y : List ℕ) → 3 * B ≤ length y → length x ≡ length y → length (block B x 2) ≡ length (block B y 2)
+dir-long B x y h l =
+    length-block B x 2 (low-inside B x (omega arith) 2 (omega arith)) ∙ sym (length-block B y 2 (low-inside B y h 2 (omega arith)))
+
+-- ---- two images that are alike
+module _ (B : ℕ) (sz : BlockSize B) (a b : List ℕ) (same : SameRead B a b) (oka : Consistent B a) (okb : Consistent B b) where
+  abbrev v : View
+  v = view B a
+
+  abbrev w : View
+  w = view B b
+
+  al : Alike B v w
+  al = alike B sz a b same
+
+  pos : 0 < B
+  pos = omega (arith, sz .large)
+
+  -- what both requests leave is alike where it was set alike, and where both left it
+  module _ (na nb : List ℕ) (la : length na ≡ length a) (lb : length nb ≡ length b) (ka : KeptLaw B a na) (kb : KeptLaw B b nb) where
+    long-after : length na ≡ length nb
+    long-after = la ∙ same .long ∙ sym lb
+
+    head-after : part 0 20 (block B na 0) ≡ part 0 20 (block B nb 0)
+    head-after = ap (part 0 20) (ka .head) ∙ same .head ∙ sym (ap (part 0 20) (kb .head))
+
+    low : (i : ℕ) → i < blocks B na → i < blocks B a
+    low i h = subst (λ (n : ℕ). i < n) (blocks-eq B na a la) h
+
+    bit-after : (i : ℕ) → i < blocks B na → mapBit (block B na 1) i ≡ mapBit (block B a 1) i → mapBit (block B nb 1) i ≡ mapBit (block B b 1) i → mapBit (block B na 1) i ≡ mapBit (block B nb 1) i
+    bit-after i h p q = p ∙ same .bits i (low i h) ∙ sym q
+
+    slot-after : (s t : ℕ) → t < slots B → t ≢ s → ((i : ℕ) → (i < s * 20) ⊎ (s * 20 + 20 ≤ i) → getD (block B na 2) i 0 ≡ getD (block B a 2) i 0) → ((i : ℕ) → (i < s * 20) ⊎ (s * 20 + 20 ≤ i) → getD (block B nb 2) i 0 ≡ getD (block B b 2) i 0) → slot (block B na 2) t ≡ slot (block B nb 2) t
+    slot-after s t h d p q =
+        slot-kept s t (block B na 2) (block B a 2) (dir-long B na a (oka .long) la) d p
+        ∙ same .slots-same t h
+        ∙ sym (slot-kept s t (block B nb 2) (block B b 2) (dir-long B nb b (okb .long) lb) d q)
+
+    block-after : (i : ℕ) → 3 ≤ i → ((r : ℕ) → r < B → getD na (i * B + r) 0 ≡ getD a (i * B + r) 0) → ((r : ℕ) → r < B → getD nb (i * B + r) 0 ≡ getD b (i * B + r) 0) → block B na i ≡ block B nb i
+    block-after i h p q = block-ext B na a i la p ∙ same .rest i h ∙ sym (block-ext B nb b i lb q)
+
+    past : (i r : ℕ) → 3 ≤ i → 3 * B ≤ i * B + r
+    past i r h = omega (arith, mul-le-mul-right {m = 3} {n = i} B h)
+
+    -- create
+    create-alike : (nm : List ℕ) (z h s : ℕ) (cs : List ℕ) → CreateTouch B a na nm z h s cs → CreateTouch B b nb nm z h s cs → SameRead B na nb
+    create-alike nm z h s cs ta tb =
+        record {
+          long = long-after;
+          head = head-after;
+          bits = λ i l.
+              elim (in-dec i cs) [ yes p ↦ ta .marked i p ∙ sym (tb .marked i p) | no d ↦ bit-after i l (ta .bits i d) (tb .bits i d) ];
+          slots-same = λ t l.
+              elim (ℕ-discrete t s) [
+                | yes e ↦ subst (λ (x : ℕ). slot (block B na 2) x ≡ slot (block B nb 2) x) (sym e) (ta .entry ∙ sym (tb .entry))
+                | no d ↦ slot-after s t l d (ta .entries) (tb .entries)
+              ];
+          rest = λ i l.
+              elim (in-dec i cs) [
+                | yes p ↦ let m = in-at cs i p in subst (λ (x : ℕ). block B na x ≡ block B nb x) (m .2) (own (m .0) (m .1))
+                | no d ↦ block-after i l (λ r k. ta .bytes (i * B + r) (inr (past i r l)) (λ p. d (inside i r k p))) (λ r k. tb .bytes (i * B + r) (inr (past i r l)) (λ p. d (inside i r k p)))
+              ];
+        }
+      where
+        inside : (i r : ℕ) → r < B → In ((i * B + r) / B) cs → In i cs
+        inside i r k p = subst (λ (x : ℕ). In x cs) (digits-div i k) p
+
+        own : (m : ℕ) → m < length cs → block B na (getD cs m 0) ≡ block B nb (getD cs m 0)
+        own zero k = subst (λ (x : ℕ). block B na x ≡ block B nb x) (sym (ta .handle)) (ta .inode ∙ sym (tb .inode))
+        own (suc m) k =
+            let l : m < need B z = omega (arith, ta .blocks .long) in
+            ta .zeroed m l ∙ sym (tb .zeroed m l)
+
+    -- remove
+    remove-alike : (s : ℕ) → File B v s → ((i : ℕ) → BlockOf B v s i → BlockOf B w s i) → ((i : ℕ) → BlockOf B w s i → BlockOf B v s i) → RemoveTouch B a na s → RemoveTouch B b nb s → SameRead B na nb
+    remove-alike s f to from ta tb =
+        record {
+          long = long-after;
+          head = head-after;
+          bits = λ i l.
+              elim (in-dec i (fileClaims B v s)) [
+                | yes p ↦ (let o : BlockOf B v s i = claimed-block B v s i f p in ta .cleared i o ∙ sym (tb .cleared i (to i o)))
+                | no d ↦ bit-after i l (ta .bits i (λ o. d (block-claimed B v s i f o))) (tb .bits i (λ o. d (block-claimed B v s i f (from i o))))
+              ];
+          slots-same = λ t l.
+              elim (ℕ-discrete t s) [
+                | yes e ↦ subst (λ (x : ℕ). slot (block B na 2) x ≡ slot (block B nb 2) x) (sym e) zeroed
+                | no d ↦ slot-after s t l d (ta .entries) (tb .entries)
+              ];
+          rest = λ i l. block-after i l (λ r k. ta .bytes (i * B + r) (inr (past i r l))) (λ r k. tb .bytes (i * B + r) (inr (past i r l)));
+        }
+      where
+        zeroed : slot (block B na 2) s ≡ slot (block B nb 2) s
+        zeroed =
+            slot-ext s (block B na 2) (block B nb 2)
+            (dir-long B na nb (subst (λ (n : ℕ). 3 * B ≤ n) (sym lb) (okb .long)) long-after)
+            (λ i k. ta .zeroed i k ∙ sym (tb .zeroed i k))
+
+  -- a granted create
+  created-alike : (nm : List ℕ) (z : ℕ) → T (granted (create B a nm z .answer)) → T (granted (create B b nm z .answer)) → SameRead B (create B a nm z .image) (create B b nm z .image)
+  created-alike nm z ga gb =
+      let ta = created-touch B sz a oka nm z ga in
+      let tb = created-touch B sz b okb nm z gb in
+      create-alike (create B a nm z .image) (create B b nm z .image) (ta .long) (tb .long) (create-kept sz a nm z) (create-kept sz b nm z) nm z (getD (chosen B v z) 0 0) (freeSlot B v) (chosen B v z) ta
+      (subst₂ (λ (s : ℕ) (cs : List ℕ). CreateTouch B b (create B b nm z .image) nm z (getD cs 0 0) s cs) (sym (free-slot-alike B v w al)) (sym (chosen-alike B v w al z)) tb)
+
+  -- a granted remove
+  removed-alike : (nm : List ℕ) → T (granted (remove B a nm .answer)) → T (granted (remove B b nm .answer)) → SameRead B (remove B a nm .image) (remove B b nm .image)
+  removed-alike nm ga gb =
+      remove-alike (remove B a nm .image) (remove B b nm .image) (ta .long) (tb .long) (remove-kept sz a nm) (remove-kept sz b nm) s (sta .file) to from ta tb
+    where
+      s : ℕ
+      s = slotOf B v nm
+
+      hit : slotOf B v nm < slots B
+      hit = remove-granted B a (check-means B sz a .1 oka) nm ga
+
+      sta : Stands B v nm s
+      sta = stands-hit B v nm hit
+
+      stb : Stands B w nm s
+      stb = subst (Stands B w nm) (sym (slot-of-alike B v w al nm)) (stands-hit B w nm (remove-granted B b (check-means B sz b .1 okb) nm gb))
+
+      ta : RemoveTouch B a (remove B a nm .image) s
+      ta = remove-touches B sz a oka nm s sta ga
+
+      tb : RemoveTouch B b (remove B b nm .image) s
+      tb = remove-touches B sz b okb nm s stb gb
+
+      to : (i : ℕ) → BlockOf B v s i → BlockOf B w s i
+      to i o =
+          ⊎-elim (λ e. inl (sym (inode-alike B v w al s hit) ∙ e))
+          (λ k. inr (k .0, subst (λ (z : ℕ). k .0 < need B z) (size-alike B v w al s) (k .1), sym (number-alike B v w al s (k .0)) ∙ k .2)) o
+
+      from : (i : ℕ) → BlockOf B w s i → BlockOf B v s i
+      from i o =
+          ⊎-elim (λ e. inl (inode-alike B v w al s hit ∙ e))
+          (λ k. inr (k .0, subst (λ (z : ℕ). k .0 < need B z) (sym (size-alike B v w al s)) (k .1), number-alike B v w al s (k .0) ∙ k .2)) o
+
+  -- a write, granted or refused
+  write-moves : (x : List ℕ) (h o : ℕ) (bs : List ℕ) → step (filesOf B v) x (putOf B v (wr h o bs)) ≡ step (filesOf B w) x (putOf B w (wr h o bs))
+  unfolding putOf place
+  write-moves x h o bs = λ i.
+      storeAt (λ p. number-alike B v w al (slot-with-alike B v w al h i) (p / B) i * B + p % B) x o
+      (take (size-alike B v w al (slot-with-alike B v w al h i) i - o) bs)
+
+  written-alike : (h o : ℕ) (bs : List ℕ) → SameRead B (write B a h o bs .image) (write B b h o bs .image)
+  unfolding request putOf
+  written-alike h o bs =
+      record {
+        long = la ∙ same .long ∙ sym lb;
+        head = ap (part 0 20) (sym (view-head B na) ∙ ap (λ (x : View). x .head) va ∙ view-head B a) ∙ same .head ∙ sym (ap (part 0 20) (sym (view-head B nb) ∙ ap (λ (x : View). x .head) vb ∙ view-head B b));
+        bits = λ i l.
+            (ap (λ (m : List ℕ). mapBit m i) (sym (view-map B na) ∙ ap (λ (x : View). x .map) va ∙ view-map B a)
+            ∙ same .bits i (subst (λ (n : ℕ). i < n) (blocks-eq B na a la) l)
+            ∙ sym (ap (λ (m : List ℕ). mapBit m i) (sym (view-map B nb) ∙ ap (λ (x : View). x .map) vb ∙ view-map B b)));
+        slots-same = λ t l.
+            (ap (λ (d : List ℕ). slot d t) (sym (view-dir B na) ∙ ap (λ (x : View). x .dir) va ∙ view-dir B a)
+            ∙ same .slots-same t l
+            ∙ sym (ap (λ (d : List ℕ). slot d t) (sym (view-dir B nb) ∙ ap (λ (x : View). x .dir) vb ∙ view-dir B b)));
+        rest = λ i l.
+            block-ext B na nb i (la ∙ same .long ∙ sym lb)
+            (λ r k.
+            ap (λ (x : List ℕ). getD x (i * B + r) 0) (request-image B a pa (wr h o bs) ∙ write-moves a h o bs)
+            ∙ store-same (place B w (slotWith B w h)) (take (size w (slotWith B w h) - o) bs) a b o (i * B + r) (same .long) (block-byte B a b i r k (same .rest i l))
+            ∙ sym (ap (λ (x : List ℕ). getD x (i * B + r) 0) (request-image B b pb (wr h o bs))));
+      }
+    where
+      na : List ℕ
+      na = write B a h o bs .image
+
+      nb : List ℕ
+      nb = write B b h o bs .image
+
+      pa : check B a ≡ consistent
+      pa = check-means B sz a .1 oka
+
+      pb : check B b ≡ consistent
+      pb = check-means B sz b .1 okb
+
+      la : length na ≡ length a
+      la = request-length B pos a pa (oka .sound) (wr h o bs)
+
+      lb : length nb ≡ length b
+      lb = request-length B pos b pb (okb .sound) (wr h o bs)
+
+      va : view B na ≡ view B a
+      va = request-view B pos a pa (oka .sound) (wr h o bs)
+
+      vb : view B nb ≡ view B b
+      vb = request-view B pos b pb (okb .sound) (wr h o bs)
+
+-- ---- one request, granted or refused
+module _ (B : ℕ) (sz : BlockSize B) (a b : List ℕ) (same : SameRead B a b) where
+  -- its answer is the same on both
+  answer-same : (c : Change) → perform B a c .answer ≡ perform B b c .answer
+  unfolding perform
+  answer-same (creates nm z) = ignored B sz a b same .create-same nm z
+  answer-same (removes nm) = ignored B sz a b same .remove-same nm
+  answer-same (writes h o bs) = ignored B sz a b same .write-same h o bs
+
+  granted-alike : (c : Change) → Consistent B a → Consistent B b → T (granted (perform B a c .answer)) → T (granted (perform B b c .answer)) → SameRead B (perform B a c .image) (perform B b c .image)
+  unfolding perform
+  granted-alike (creates nm z) oka okb ga gb = created-alike B sz a b same oka okb nm z ga gb
+  granted-alike (removes nm) oka okb ga gb = removed-alike B sz a b same oka okb nm ga gb
+  granted-alike (writes h o bs) oka okb ga gb = written-alike B sz a b same oka okb h o bs
+
+  -- the images that it leaves differ at most in what the rules ignore
+  pub same-after : (c : Change) → SameRead B (perform B a c .image) (perform B b c .image)
+  same-after c =
+      by-test (granted (perform B a c .answer))
+      (λ ga.
+      let gb : T (granted (perform B b c .answer)) = subst (λ (x : Answer). T (granted x)) (answer-same c) ga in
+      granted-alike c (check-means B sz a .0 (granted-passed B a c ga)) (check-means B sz b .0 (granted-passed B b c gb)) ga gb)
+      (λ ra.
+      let rb = subst (λ (x : Answer). T (not (granted x))) (answer-same c) ra in
+      subst₂ (SameRead B) (sym (refused-keeps B a c ra)) (sym (refused-keeps B b c rb)) same)
+
+-- ---- any number of requests
+pub same-after-all : (B : ℕ) → BlockSize B → (a b : List ℕ) → SameRead B a b → (cs : List Change) → SameRead B (afterAll B a cs) (afterAll B b cs)
+unfolding afterAll
+same-after-all B sz a b same [] = same
+same-after-all B sz a b same (c ∷ cs) = same-after-all B sz (perform B a c .image) (perform B b c .image) (same-after B sz a b same c) cs

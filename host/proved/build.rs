@@ -1,0 +1,11 @@
+//! Links the static libraries that `rt staticlib tfs_c` and `rt staticlib romfs_c` write.
+use std::path::Path;
+
+fn main() {
+    let folder = Path::new(env!("CARGO_MANIFEST_DIR")).join("../../target/staticlib");
+    println!("cargo:rustc-link-search=native={}", folder.display());
+    for name in ["tfs_c", "romfs_c"] {
+        println!("cargo:rustc-link-lib=static={name}");
+        println!("cargo:rerun-if-changed={}/lib{name}.a", folder.display());
+    }
+}

@@ -1,0 +1,17 @@
+//! The proved requests, called through their C interface (`include/tfs.h`, `include/romfs.h`).
+//!
+//! Rust's borrows give what the headers ask of a caller: valid pointers, and no overlap.
+
+#![warn(missing_docs)]
+
+pub mod romfs;
+pub mod tfs;
+
+/// A refused request: the number of the refusal and its place.
+#[derive(Clone, Copy, Debug, PartialEq, Eq)]
+pub struct Refusal {
+    /// The number, as the headers name it.
+    pub number: u32,
+    /// The slot, block or header at fault, or 0.
+    pub place: u32,
+}

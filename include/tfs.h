@@ -1,0 +1,116 @@
+/*
+ * TFS: a small writable filesystem in a lent byte image.
+ *
+ * Every request takes the whole image as a pointer and a length, of any
+ * content and any length, and answers by value. No allocation, no global
+ * state, no recursion, under 16 KiB of stack.
+ *
+ * What the caller must keep to:
+ *  - a pointer is valid for the length beside it: readable where it is const,
+ *    readable and writable where it is not;
+ *  - a pointer is not NULL; with length 0 it may be any other address;
+ *  - the image, the name and the buffer of one call do not overlap;
+ *  - nobody else writes to them during the call.
+ * Nothing else is asked: every value of every number, and every byte of the
+ * image, the name and the buffer has a defined answer.
+ *
+ * A refused request changes no byte of the image and of the buffer.
+ */
+#ifndef TFS_H
+#define TFS_H
+
+#include <stddef.h>
+#include <stdint.h>
+
+#ifdef __cplusplus
+extern "C" {
+#endif
+
+#define TFS_BLOCK_SIZE 512u
+#define TFS_MAX_BLOCKS 4096u /* bytes past block 4095 are never read or changed */
+#define TFS_MIN_IMAGE 1536u
+#define TFS_SLOTS 25u
+#define TFS_MAX_FILE 65024u /* bytes */
+#define TFS_MAX_NAME 15u    /* bytes, none of them zero */
+
+/* The refusal of a result. 1 to 7 say that the volume is not consistent: the
+ * first broken rule is given, at its lowest place. */
+enum tfs_refusal {
+    TFS_OK = 0,
+    TFS_IMAGE_TOO_SHORT = 1,  /* image under 1,536 bytes */
+    TFS_BAD_MAGIC = 2,        /* bytes 0 to 3 are not the magic number */
+    TFS_BAD_LABEL = 3,        /* no zero in the 16 bytes of the volume's name */
+    TFS_BAD_SLOT = 4,         /* slot neither free nor well formed, or a name twice; place: slot */
+    TFS_BAD_INODE = 5,        /* size or block number of the slot's inode out of range; place: slot */
+    TFS_BLOCK_TWICE = 6,      /* block claimed twice; place: block */
+    TFS_MAP_WRONG = 7,        /* map bit differs from the claims; place: block */
+    TFS_NAME_NOT_ALLOWED = 8, /* empty (but for format), over 15 bytes, or holding a zero byte */
+    TFS_SIZE_TOO_LARGE = 9,   /* over 65,024 bytes */
+    TFS_NAME_EXISTS = 10,
+    TFS_NO_FREE_SLOT = 11,
+    TFS_NO_ROOM = 12,         /* too few free blocks */
+    TFS_NO_SUCH_NAME = 13,
+    TFS_NO_SUCH_HANDLE = 14,  /* handle of no file; for list, slot over 24 */
+    TFS_OFFSET_PAST_END = 15  /* offset greater than the file's size */
+};
+
+/* The answer of a request. */
+typedef struct tfs_result {
+    uint32_t refusal; /* an enum tfs_refusal; 0 is granted */
+    uint32_t place;   /* the slot or block at fault (refusals 4 to 7), else 0 */
+    uint32_t value;   /* what is granted: a handle, a count or free bytes; else 0 */
+} tfs_result;
+
+/* The answer of tfs_list. */
+typedef struct tfs_slot {
+    uint32_t refusal;     /* as in tfs_result */
+    uint32_t place;       /* as in tfs_result */
+    uint32_t used;        /* 1: a file; 0: a free slot, or refused */
+    uint32_t inode;       /* the file's handle, else 0 */
+    uint32_t size;        /* the file's size in bytes, else 0 */
+    uint32_t name_length; /* 1 to 15 for a file, else 0 */
+    uint8_t name[16];     /* the file's name, padded with zeros; else zeros */
+} tfs_slot;
+
+/* Makes an empty volume, whatever the image held. The label may be empty.
+ * Zeros blocks 0 to 2 and leaves the later blocks. Refusals: 1, 8. */
+tfs_result tfs_format(uint8_t *image, size_t image_length, const uint8_t *label, size_t label_length);
+
+/* Checks the volume. Every request below does this first and gives the
+ * refusal of the check. Refusals: 1 to 7. */
+tfs_result tfs_check(const uint8_t *image, size_t image_length);
+
+/* Gives the handle of a file. A handle is the file's inode number: after the
+ * file's removal it is refused, or means a newer file whose inode took that
+ * block. Refusals: 8, 13. */
+tfs_result tfs_open(const uint8_t *image, size_t image_length, const uint8_t *name, size_t name_length);
+
+/* Creates a file of this size, all zeros, and gives its handle. The size is
+ * fixed from then on. Refusals: 8 to 12, in this order. */
+tfs_result tfs_create(uint8_t *image, size_t image_length, const uint8_t *name, size_t name_length, uint32_t size);
+
+/* Removes a file. Refusals: 8, 13. */
+tfs_result tfs_remove(uint8_t *image, size_t image_length, const uint8_t *name, size_t name_length);
+
+/* Reads from the offset on into the buffer, and gives the count: the buffer's
+ * length, or fewer at the file's end. The rest of the buffer stays.
+ * Refusals: 14, 15. */
+tfs_result tfs_read(const uint8_t *image, size_t image_length, uint32_t handle, uint32_t offset, uint8_t *buffer,
+                    size_t buffer_length);
+
+/* Writes the buffer into the file from the offset on, and gives the count: the
+ * buffer's length, or fewer at the file's end. Refusals: 14, 15. */
+tfs_result tfs_write(uint8_t *image, size_t image_length, uint32_t handle, uint32_t offset, const uint8_t *buffer,
+                     size_t buffer_length);
+
+/* Gives what stands in a slot, 0 to 24. Refusal: 14. */
+tfs_slot tfs_list(const uint8_t *image, size_t image_length, uint32_t slot);
+
+/* Gives the free bytes: 512 for each free block. */
+tfs_result tfs_free_bytes(const uint8_t *image, size_t image_length);
+
+#ifdef __cplusplus
+}
+#endif
+
+#endif
