@@ -9,22 +9,6 @@ use reference::romfs::Kind;
 use std::fs;
 use std::os::unix::fs::{MetadataExt, PermissionsExt};
 
-fn sample() -> Vec<u8> {
-    image(&[
-        dot(b".", FIRST),
-        hard_link(b"..", FIRST),
-        file(b"boot.cfg", &some(100)),
-        directory(
-            b"bin",
-            vec![program(b"run", &some(20)), directory(b"low", vec![])],
-        ),
-        symbolic_link(b"to", b"bin/run"),
-        hard_link(b"again", 96),
-        char_device(b"tty", 5, 1),
-        fifo(b"pipe"),
-    ])
-}
-
 #[test]
 fn the_image_of_the_rules() {
     let folder = Folder::new("rom_of_the_rules");

@@ -4,6 +4,8 @@ mod bench;
 
 use bench::Folder;
 
+const PUT: &str = "put IMAGE HOSTFILE [--name NAME] [--replace]";
+
 #[test]
 fn help_tells_of_every_command() {
     let folder = Folder::new("help");
@@ -50,46 +52,29 @@ fn the_version_is_that_of_the_crate() {
 }
 
 #[test]
-fn wrong_usage_has_status_2() {
-    let folder = Folder::new("usage");
+fn an_unknown_command_has_status_2() {
+    let folder = Folder::new("unknown");
     folder.refused("", 2, "no command; tfs --help lists them");
-    folder.refused(
-        "mount v",
-        2,
-        "mount: no such command; tfs --help lists them",
-    );
-    folder.refused("rom", 2, "rom: no such command; tfs --help lists them");
-    folder.refused(
-        "rom mount v",
-        2,
-        "rom: no such command; tfs --help lists them",
-    );
-    folder.refused(
-        "check",
-        2,
-        "check: an argument is missing; usage: tfs check IMAGE",
-    );
-    folder.refused(
-        "check a b",
-        2,
-        "check: too many arguments; usage: tfs check IMAGE",
-    );
-    folder.refused(
-        "check v --all",
-        2,
-        "check: unknown option --all; usage: tfs check IMAGE",
-    );
-    let put = "usage: tfs put IMAGE HOSTFILE [--name NAME] [--replace]";
-    folder.refused(
-        "put v f --name",
-        2,
-        &format!("put: --name needs a value; {put}"),
-    );
-    folder.refused(
-        "put v f --replace=1",
-        2,
-        &format!("put: --replace has no value; {put}"),
-    );
+    for (line, first) in [("mount v", "mount"), ("rom", "rom"), ("rom mount v", "rom")] {
+        let message = format!("{first}: no such command; tfs --help lists them");
+        folder.refused(line, 2, &message);
+    }
+}
+
+#[test]
+fn wrong_arguments_have_status_2() {
+    let folder = Folder::new("usage");
+    let cases = [
+        ("check", "an argument is missing", "check IMAGE"),
+        ("check a b", "too many arguments", "check IMAGE"),
+        ("check v --all", "unknown option --all", "check IMAGE"),
+        ("put v f --name", "--name needs a value", PUT),
+        ("put v f --replace=1", "--replace has no value", PUT),
+    ];
+    for (line, why, usage) in cases {
+        let command = line.split(' ').next().unwrap();
+        folder.refused(line, 2, &format!("{command}: {why}; usage: tfs {usage}"));
+    }
     folder.refused("put v -", 2, "put: -: give a --name");
     folder.refused("put v ..", 2, "put: ..: give a --name");
     folder.refused("make v", 2, "make: --size is needed");

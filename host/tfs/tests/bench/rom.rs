@@ -1,5 +1,7 @@
 //! romfs images by hand.
 
+use super::some;
+
 /// An entry to put into an image.
 pub struct Node {
     kind: u32,
@@ -90,6 +92,23 @@ pub fn image(root: &[Node]) -> Vec<u8> {
     let covered = image.len().min(512);
     seal(&mut image, 0, covered);
     image
+}
+
+/// An image with an entry of most types.
+pub fn sample() -> Vec<u8> {
+    image(&[
+        dot(b".", FIRST),
+        hard_link(b"..", FIRST),
+        file(b"boot.cfg", &some(100)),
+        directory(
+            b"bin",
+            vec![program(b"run", &some(20)), directory(b"low", vec![])],
+        ),
+        symbolic_link(b"to", b"bin/run"),
+        hard_link(b"again", 96),
+        char_device(b"tty", 5, 1),
+        fifo(b"pipe"),
+    ])
 }
 
 fn place(image: &mut Vec<u8>, list: &[Node]) {
