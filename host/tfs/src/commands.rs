@@ -1,8 +1,7 @@
 //! The commands: their words, their help, and what they call.
 
 use crate::arguments::{size, Arguments, Options};
-use crate::failure::Failure;
-use crate::volume::Outcome;
+use crate::failure::{Failure, Outcome};
 use crate::{dump, rom, volume};
 use std::ffi::OsString;
 use std::os::unix::ffi::OsStrExt;

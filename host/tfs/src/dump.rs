@@ -1,9 +1,9 @@
 //! Bytes of a volume in hex and their meaning, as this tool reads them, sound or damaged.
 
 use crate::arguments::number;
-use crate::failure::Failure;
+use crate::failure::{Failure, Outcome};
 use crate::image::Image;
-use crate::volume::{Outcome, SLOTS};
+use crate::volume::SLOTS;
 use crate::words;
 use std::ffi::OsStr;
 use std::fmt::Write;

@@ -5,6 +5,9 @@ use proved::Refusal;
 use std::fmt;
 use std::path::{Path, PathBuf};
 
+/// What a command gives for standard output, or why it failed.
+pub type Outcome = Result<Vec<u8>, Failure>;
+
 /// Why a command failed.
 #[derive(Debug)]
 pub enum Failure {

@@ -3,9 +3,8 @@
 mod extract;
 mod walk;
 
-use crate::failure::Failure;
+use crate::failure::{Failure, Outcome};
 use crate::image::Image;
-use crate::volume::Outcome;
 use crate::words;
 use proved::{romfs, Refusal};
 use std::path::Path;

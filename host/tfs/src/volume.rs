@@ -1,6 +1,6 @@
 //! The commands on a TFS volume. Each gives what goes to standard output.
 
-use crate::failure::Failure;
+use crate::failure::{Failure, Outcome};
 use crate::files::{self, STANDARD};
 use crate::image::Image;
 use crate::words;
@@ -8,9 +8,6 @@ use proved::{tfs, Refusal};
 use std::ffi::OsStr;
 use std::os::unix::ffi::OsStrExt;
 use std::path::Path;
-
-/// The output of a command, or why it failed.
-pub type Outcome = Result<Vec<u8>, Failure>;
 
 /// The number of slots of a directory.
 pub const SLOTS: u32 = 25;

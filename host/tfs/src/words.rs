@@ -61,11 +61,14 @@ fn plain(number: u32) -> &'static str {
 
 /// A name on one line: printable ASCII as it is, the backslash and any other byte as `\xNN`.
 pub fn name(bytes: &[u8]) -> String {
-    let shown = |&byte: &u8| match byte {
-        b' '..=b'~' if byte != b'\\' => char::from(byte).to_string(),
-        _ => format!("\\x{byte:02x}"),
-    };
-    bytes.iter().map(shown).collect()
+    let mut shown = String::new();
+    for &byte in bytes {
+        match byte {
+            b' '..=b'~' if byte != b'\\' => shown.push(char::from(byte)),
+            _ => shown += &format!("\\x{byte:02x}"),
+        }
+    }
+    shown
 }
 
 #[cfg(test)]

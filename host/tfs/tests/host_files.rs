@@ -58,19 +58,22 @@ fn a_missing_folder_is_not_made() {
 fn a_folder_may_be_unwritable() {
     let folder = with_volume("unwritable");
     folder.tfs("put v in").granted();
+    let rights = |name, mode| {
+        fs::set_permissions(folder.path(name), fs::Permissions::from_mode(mode)).unwrap();
+    };
     fs::create_dir(folder.path("shut")).unwrap();
     fs::copy(folder.path("v"), folder.path("shut/v")).unwrap();
-    fs::set_permissions(folder.path("shut"), fs::Permissions::from_mode(0o555)).unwrap();
+    rights("shut", 0o555);
+    rights("v", 0o444);
     // Root may write everywhere.
-    if fs::write(folder.path("shut/probe"), b"").is_ok() {
-        return;
+    if fs::write(folder.path("shut/probe"), b"").is_err() {
+        let denied = "Permission denied (os error 13)";
+        folder.refused("get v in shut/out", 3, &format!("shut/out: {denied}"));
+        folder.refused("make shut/w --size 64K", 3, &format!("shut/w: {denied}"));
+        folder.refused("remove shut/v in", 3, &format!("shut/v: {denied}"));
+        folder.refused("remove v in", 3, &format!("v: {denied}"));
     }
-    let denied = "Permission denied (os error 13)";
-    folder.refused("get v in shut/out", 3, &format!("shut/out: {denied}"));
-    folder.refused("make shut/w --size 64K", 3, &format!("shut/w: {denied}"));
-    folder.refused("remove shut/v in", 3, &format!("shut/v: {denied}"));
-    fs::set_permissions(folder.path("v"), fs::Permissions::from_mode(0o444)).unwrap();
-    folder.refused("remove v in", 3, &format!("v: {denied}"));
+    rights("shut", 0o755);
 }
 
 #[test]

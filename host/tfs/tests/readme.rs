@@ -1,4 +1,4 @@
-//! The sessions in the README run as they are printed there.
+//! The examples in the README run as they are printed there.
 
 mod bench;
 
@@ -7,8 +7,8 @@ use bench::Folder;
 
 const README: &str = include_str!("../README.md");
 
-/// The commands of the sessions, each with the lines printed after it.
-fn sessions() -> Vec<(String, String)> {
+/// The commands of the examples, each with the lines printed after it.
+fn examples() -> Vec<(String, String)> {
     let mut commands: Vec<(String, String)> = Vec::new();
     let mut inside = false;
     for line in README.lines() {
@@ -25,12 +25,12 @@ fn sessions() -> Vec<(String, String)> {
 }
 
 #[test]
-fn sessions_are_true() {
+fn examples_are_true() {
     let folder = Folder::new("readme");
     folder.write("boot.romfs", &sample());
-    let sessions = sessions();
-    assert!(sessions.len() > 10);
-    for (command, printed) in sessions {
+    let examples = examples();
+    assert!(examples.len() > 10);
+    for (command, printed) in examples {
         let ran = folder.shell(&format!("exec 2>&1; {command}"));
         assert_eq!(String::from_utf8(ran.out).unwrap(), printed, "{command}");
     }

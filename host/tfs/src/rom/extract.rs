@@ -5,10 +5,9 @@
 
 use super::walk::{Header, Kind, Walk};
 use super::{accepted, unread};
-use crate::failure::Failure;
+use crate::failure::{Failure, Outcome};
 use crate::files;
 use crate::image::Image;
-use crate::volume::Outcome;
 use crate::words;
 use std::collections::HashMap;
 use std::ffi::OsStr;
@@ -31,6 +30,7 @@ pub fn extract(path: &Path, folder: &Path) -> Outcome {
             folder,
             inside,
             names: Vec::new(),
+            targets: HashMap::new(),
             made: HashMap::new(),
             skipped: String::new(),
         };
@@ -49,6 +49,8 @@ struct Tree<'a> {
     inside: &'a Path,
     /// The names from the root list to the entry at hand.
     names: Vec<&'a OsStr>,
+    /// The headers that hard links lead to, each read once however many do.
+    targets: HashMap<u32, Header<'a>>,
     /// Where the content of a header was written, for hard links to it.
     made: HashMap<u32, PathBuf>,
     skipped: String,
@@ -61,21 +63,22 @@ impl<'a> Tree<'a> {
             let (depth, header) = visited.map_err(|at| unread(self.image, at))?;
             self.names.truncate(depth - 1);
             self.names.push(OsStr::from_bytes(header.name));
-            let own = matches!(header.kind, Kind::Directory | Kind::HardLink) && header.is_dot();
-            if own {
+            // The host makes "." and ".." of a directory itself.
+            if header.is_dot() && matches!(header.kind, Kind::Directory | Kind::HardLink) {
                 continue;
             }
             if let Some(why) = self.place(&header)? {
-                let names: Vec<String> = self
-                    .names
-                    .iter()
-                    .map(|name| words::name(name.as_bytes()))
-                    .collect();
-                self.skipped += &format!("skipped {}: {why}\n", names.join("/"));
+                self.skip(&why);
                 walk.skip_list(depth);
             }
         }
         Ok(())
+    }
+
+    fn skip(&mut self, why: &str) {
+        let names = self.names.iter().map(|name| words::name(name.as_bytes()));
+        let path = names.collect::<Vec<String>>().join("/");
+        self.skipped += &format!("skipped {path}: {why}\n");
     }
 
     /// Makes the entry at hand, or gives the reason to skip it.
@@ -101,11 +104,16 @@ impl<'a> Tree<'a> {
     }
 
     /// The header itself, or the one that a hard link leads to.
-    fn meant(&self, header: &Header<'a>) -> Option<Header<'a>> {
-        match header.kind {
-            Kind::HardLink => Header::read(&self.image.bytes, header.info),
-            _ => Some(*header),
+    fn meant(&mut self, header: &Header<'a>) -> Option<Header<'a>> {
+        if header.kind != Kind::HardLink {
+            return Some(*header);
         }
+        if let Some(known) = self.targets.get(&header.info) {
+            return Some(*known);
+        }
+        let target = Header::read(&self.image.bytes, header.info)?;
+        self.targets.insert(header.info, target);
+        Some(target)
     }
 
     /// Writes a file or a symbolic link, or links to where it was written before.
