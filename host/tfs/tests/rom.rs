@@ -96,14 +96,9 @@ fn the_tree_is_extracted() {
     );
 }
 
-#[test]
-fn nothing_leaves_the_folder() {
-    let folder = Folder::new("rom_hostile");
-    fs::create_dir(folder.path("target")).unwrap();
-    // A tool that took this name would still stay in the folder of this test.
-    let absolute = folder.path("evil").display().to_string();
+fn hostile(absolute: &str) -> Vec<u8> {
     let inner = || vec![file(b"evil", b"x"), file(b"../evil", b"x")];
-    let root = [
+    image(&[
         file(b"../evil", b"x"),
         file(b"..", b"x"),
         symbolic_link(b"d", b"../target"),
@@ -118,8 +113,16 @@ fn nothing_leaves_the_folder() {
         symbolic_link(b"empty", b""),
         symbolic_link(b"zero", b"a\0b"),
         file(b"back\\slash\n", b"x"),
-    ];
-    folder.write("i", &image(&root));
+    ])
+}
+
+#[test]
+fn nothing_leaves_the_folder() {
+    let folder = Folder::new("rom_hostile");
+    fs::create_dir(folder.path("target")).unwrap();
+    // A tool that took this name would still stay in the folder of this test.
+    let absolute = folder.path("evil").display().to_string();
+    folder.write("i", &hostile(&absolute));
     let name = "no name for a host file";
     let report = format!(
         "skipped ../evil: {name}\nskipped ..: {name}
