@@ -27,6 +27,10 @@ abbrev pub valueOf : Answer ℕ → ℕ
 valueOf (granted x) = x
 valueOf (denied n p) = 0
 
+-- the result of an answer
+abbrev pub resultOf : Answer ℕ → RomfsResult
+resultOf a = record { refusal = refusalOf a; place = placeOf a; value = valueOf a }
+
 abbrev pub Tells : RomfsResult → Answer ℕ → Type 0
 Tells r a = (r .refusal ≡ refusalOf a) × (r .place ≡ placeOf a) × (r .value ≡ valueOf a)
 
@@ -34,6 +38,18 @@ Tells r a = (r .refusal ≡ refusalOf a) × (r .place ≡ placeOf a) × (r .valu
 abbrev pub fieldOf : (Entry → ℕ) → Answer Entry → ℕ
 fieldOf field (granted e) = field e
 fieldOf field (denied n p) = 0
+
+abbrev pub headerOf : Answer Entry → RomfsHeader
+headerOf a = record {
+  refusal = refusalOf a;
+  place = placeOf a;
+  kind = fieldOf (λ e. e .type) a;
+  executable = fieldOf (λ e. e .executable) a;
+  info = fieldOf (λ e. e .info) a;
+  size = fieldOf (λ e. e .size) a;
+  next = fieldOf (λ e. e .next) a;
+  namelen = fieldOf (λ e. e .nameLength) a;
+}
 
 abbrev pub TellsHeader : RomfsHeader → Answer Entry → Type 0
 TellsHeader r a =
@@ -43,6 +59,9 @@ TellsHeader r a =
     × (r .next ≡ fieldOf (λ e. e .next) a) × (r .namelen ≡ fieldOf (λ e. e .nameLength) a)
 
 -- ---- content: where it begins and how long it is, or 0 and 0
+abbrev pub partOf : ℕ → Answer ℕ → RomfsPart
+partOf start a = record { refusal = refusalOf a; place = placeOf a; offset = startOf start a; length = valueOf a }
+
 abbrev pub TellsPart : RomfsPart → ℕ → Answer ℕ → Type 0
 TellsPart r start a =
     (r .refusal ≡ refusalOf a) × (r .place ≡ placeOf a) × (r .offset ≡ startOf start a) × (r .length ≡ valueOf a)
@@ -57,9 +76,9 @@ checked-is checks.Accepted = refl
 checked-is (checks.Refused (fault.Volume n)) = refl
 checked-is (checks.Refused (fault.Header n p)) = refl
 
--- ---- an answer may be replaced by its equal
-pub tells-by : {r : RomfsResult} {a b : Answer ℕ} → Tells r a → a ≡ b → Tells r b
-tells-by {r} t e = subst (λ x. Tells r x) e t
+-- ---- field by field, and as a whole; an answer may be replaced by its equal
+pub result-is : (r : RomfsResult) {a b : Answer ℕ} → Tells r a → a ≡ b → r ≡ resultOf b
+result-is r {a} t e = let whole : r ≡ resultOf a = λ i. record { refusal = t .0 i; place = t .1 i; value = t .2 i } in whole ∙ ap resultOf e
 
 pub header-by : (r : RomfsHeader) {a b : Answer Entry} → TellsHeader r a → a ≡ b → TellsHeader r b
 header-by r t e = subst (λ x. TellsHeader r x) e t
@@ -71,3 +90,13 @@ part-by r start t e = subst (λ x. TellsPart r start x) e t
 pub part-none : (r : RomfsPart) (start : ℕ) (f : Fault) → TellsPart r 0 (toldUnsound f) → TellsPart r start (toldUnsound f)
 part-none r start (fault.Volume n) t = t
 part-none r start (fault.Header n p) t = t
+
+pub header-is : (r : RomfsHeader) {a b : Answer Entry} → TellsHeader r a → a ≡ b → r ≡ headerOf b
+header-is r {a} t e =
+    let whole : r ≡ headerOf a = λ i. record { refusal = t .0 i; place = t .1 i; kind = t .2 i; executable = t .3 i; info = t .4 i; size = t .5 i; next = t .6 i; namelen = t .7 i } in
+    whole ∙ ap headerOf e
+
+pub part-is : (r : RomfsPart) (start : ℕ) {a b : Answer ℕ} → TellsPart r start a → a ≡ b → r ≡ partOf start b
+part-is r start {a} t e =
+    let whole : r ≡ partOf start a = λ i. record { refusal = t .0 i; place = t .1 i; offset = t .2 i; length = t .3 i } in
+    whole ∙ ap (partOf start) e

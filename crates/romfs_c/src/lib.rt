@@ -5,7 +5,7 @@ ghost use Rattle.romfs_rules.specs.Check as rules;
 ghost use Rattle.romfs_rules.specs.Answers as answers;
 ghost use Rattle.romfs_rules.specs.Answers.{checked, granted};
 ghost use Rattle.romfs.specs.Told.{toldUnsound, toldFind, toldEntry, toldContent};
-ghost use Rattle.romfs_c.specs.Result.{checkedAnswer, Tells, TellsHeader, TellsPart};
+ghost use Rattle.romfs_c.specs.Result.{checkedAnswer, resultOf, headerOf, partOf, Tells, TellsHeader, TellsPart};
 use romfs::ContentAnswer;
 use romfs::EntryAnswer;
 use romfs::FindAnswer;
@@ -77,7 +77,7 @@ fn of_check(c: CheckAnswer) -> RomfsResult
 // The first fault of the image.
 #[no_mangle]
 pub extern "C" fn romfs_check(image: &[u8]) -> RomfsResult
-    ensures { λ r. ⌜ Tells r (checked (rules.check (now (image .entry))) (granted 0)) ⌝ }
+    ensures { λ r. ⌜ r ≡ resultOf (checked (rules.check (now (image .entry))) (granted 0)) ⌝ }
 {
     of_check(romfs::check(image))
 }
@@ -103,7 +103,7 @@ fn of_find(a: FindAnswer) -> RomfsResult
 // The header of a name in the list of a directory; 0 is the root list.
 #[no_mangle]
 pub extern "C" fn romfs_find(image: &[u8], directory: u32, name: &[u8]) -> RomfsResult
-    ensures { λ r. ⌜ Tells r (answers.find (now (image .entry)) directory (now (name .entry))) ⌝ }
+    ensures { λ r. ⌜ r ≡ resultOf (answers.find (now (image .entry)) directory (now (name .entry))) ⌝ }
 {
     of_find(romfs::find(image, directory, name))
 }
@@ -163,7 +163,7 @@ fn of_entry(a: EntryAnswer) -> RomfsHeader
 // The entry at a header.
 #[no_mangle]
 pub extern "C" fn romfs_entry(image: &[u8], at: u32) -> RomfsHeader
-    ensures { λ r. ⌜ TellsHeader r (answers.entry (now (image .entry)) at) ⌝ }
+    ensures { λ r. ⌜ r ≡ headerOf (answers.entry (now (image .entry)) at) ⌝ }
 {
     of_entry(romfs::entry(image, at))
 }
@@ -213,7 +213,7 @@ fn of_content(image: &[u8], at: u32, a: ContentAnswer) -> RomfsPart
 // Where the content of a file lies in the image.
 #[no_mangle]
 pub extern "C" fn romfs_content(image: &[u8], at: u32) -> RomfsPart
-    ensures { λ r. ⌜ TellsPart r (contentAt (now (image .entry)) at) (answers.contentLength (now (image .entry)) at) ⌝ }
+    ensures { λ r. ⌜ r ≡ partOf (contentAt (now (image .entry)) at) (answers.contentLength (now (image .entry)) at) ⌝ }
 {
     of_content(image, at, romfs::content_length(image, at))
 }

@@ -1,7 +1,7 @@
 -- What a result of the C interface tells: an answer of the rules, as numbers.
 use Prim.Native.Nat.{ℕ, _≤_}
 use mathlib.Core.List.{List}
-use mathlib.Core.Path.{_≡_, refl, sym, subst, _∙_}
+use mathlib.Core.Path.{_≡_, refl, sym, ap, subst, _∙_}
 use native.Mathlib.Omega.{arith}
 use lib.ListN.{length, take}
 use lib.Seq.{length-take-le}
@@ -40,6 +40,10 @@ valueOf (value x) = x
 valueOf unused = 0
 valueOf (file nm i z) = 0
 valueOf (refused num p) = 0
+
+-- the result of an answer
+abbrev pub resultOf : Answer → TfsResult
+resultOf a = record { refusal = refusalOf a; place = placeOf a; value = valueOf a }
 
 abbrev pub Tells : TfsResult → Answer → Type 0
 Tells r a = (r .refusal ≡ refusalOf a) × (r .place ≡ placeOf a) × (r .value ≡ valueOf a)
@@ -93,16 +97,26 @@ abbrev pub TellsFile : TfsSlot → ℕ → ℕ → ℕ → Type 0
 TellsFile r len i z =
     (r .refusal ≡ 0) × (r .place ≡ 0) × (r .used ≡ 1) × (r .inode ≡ i) × (r .size ≡ z) × (r .namelen ≡ len)
 
--- the name is padded with zeros, and all zeros where there is no file
-abbrev pub TellsSlot : TfsSlot → Answer → Type 0
-TellsSlot r a = TellsEntry r a × (r .name ≡ listedName a)
+-- the slot of an answer; the name is padded with zeros, and all zeros where there is no file
+abbrev pub slotOf : Answer → TfsSlot
+slotOf a = record {
+  refusal = refusalOf a;
+  place = placeOf a;
+  used = usedOf a;
+  inode = inodeOf a;
+  size = sizeOf a;
+  namelen = nameLengthOf a;
+  name = listedName a;
+}
 
--- ---- an answer may be replaced by its equal
-pub tells-by : {r : TfsResult} {a b : Answer} → Tells r a → a ≡ b → Tells r b
-tells-by {r} t e = subst (λ x. Tells r x) e t
+-- ---- field by field, and as a whole
+pub result-is : (r : TfsResult) {a b : Answer} → Tells r a → a ≡ b → r ≡ resultOf b
+result-is r {a} t e = let whole : r ≡ resultOf a = λ i. record { refusal = t .0 i; place = t .1 i; value = t .2 i } in whole ∙ ap resultOf e
 
-pub slot-by : (r : TfsSlot) {a b : Answer} → TellsEntry r a → a ≡ b → TellsEntry r b
-slot-by r t e = subst (λ x. TellsEntry r x) e t
+pub slot-is : (r : TfsSlot) {a b : Answer} → TellsEntry r a → a ≡ b → r .name ≡ listedName b → r ≡ slotOf b
+slot-is r t e n =
+    let u = subst (λ x. TellsEntry r x) e t in
+    λ i. record { refusal = u .0 i; place = u .1 i; used = u .2 i; inode = u .3 i; size = u .4 i; namelen = u .5 i; name = n i }
 
 pub checked-is : (c : Checked) → checkedAnswer c ≡ checked (checkedTold c) done
 checked-is Consistent = refl

@@ -2,7 +2,7 @@
 ghost use mathlib.Core.Path.{_≡_};
 ghost use Rattle.tfs_rules.specs.Requests as rules;
 ghost use Rattle.tfs_answers.specs.Told.{faultAnswer, answerTold, doneTold, entryTold, EntryFits};
-ghost use Rattle.tfs_c.specs.Result.{checkedAnswer, Tells, TellsEntry, TellsFile, TellsNone, TellsSlot};
+ghost use Rattle.tfs_c.specs.Result.{checkedAnswer, resultOf, slotOf, Tells, TellsEntry, TellsFile, TellsNone};
 use tfs_answers::Answer;
 use tfs_answers::Done;
 use tfs_answers::Entry;
@@ -103,7 +103,7 @@ fn of_checked(c: Checked) -> TfsResult
 // The first broken rule of the volume, at its lowest place.
 #[no_mangle]
 pub extern "C" fn tfs_check(image: &[u8]) -> TfsResult
-    ensures { λ r. ⌜ Tells r (rules.checkAnswer 512 (now (image .entry))) ⌝ }
+    ensures { λ r. ⌜ r ≡ resultOf (rules.checkAnswer 512 (now (image .entry))) ⌝ }
 {
     of_checked(tfs_check::check(image))
 }
@@ -111,7 +111,7 @@ pub extern "C" fn tfs_check(image: &[u8]) -> TfsResult
 // An empty volume with this label, whatever the image held.
 #[no_mangle]
 pub extern "C" fn tfs_format(image: &mut [u8], label: &[u8]) -> TfsResult
-    ensures { λ r. ⌜ Tells r (rules.format 512 (now (image .entry)) (now (label .entry)) .answer) × (now (image .exit) ≡ rules.format 512 (now (image .entry)) (now (label .entry)) .image) ⌝ }
+    ensures { λ r. ⌜ (r ≡ resultOf (rules.format 512 (now (image .entry)) (now (label .entry)) .answer)) × (now (image .exit) ≡ rules.format 512 (now (image .entry)) (now (label .entry)) .image) ⌝ }
 {
     of_done(tfs_change::format(image, label))
 }
@@ -119,7 +119,7 @@ pub extern "C" fn tfs_format(image: &mut [u8], label: &[u8]) -> TfsResult
 // A file of this name and size, all zeros; the value is its handle.
 #[no_mangle]
 pub extern "C" fn tfs_create(image: &mut [u8], name: &[u8], size: u32) -> TfsResult
-    ensures { λ r. ⌜ Tells r (rules.create 512 (now (image .entry)) (now (name .entry)) size .answer) × (now (image .exit) ≡ rules.create 512 (now (image .entry)) (now (name .entry)) size .image) ⌝ }
+    ensures { λ r. ⌜ (r ≡ resultOf (rules.create 512 (now (image .entry)) (now (name .entry)) size .answer)) × (now (image .exit) ≡ rules.create 512 (now (image .entry)) (now (name .entry)) size .image) ⌝ }
 {
     of_answer(tfs_change::create(image, name, size))
 }
@@ -127,7 +127,7 @@ pub extern "C" fn tfs_create(image: &mut [u8], name: &[u8], size: u32) -> TfsRes
 // Removes the file of this name.
 #[no_mangle]
 pub extern "C" fn tfs_remove(image: &mut [u8], name: &[u8]) -> TfsResult
-    ensures { λ r. ⌜ Tells r (rules.remove 512 (now (image .entry)) (now (name .entry)) .answer) × (now (image .exit) ≡ rules.remove 512 (now (image .entry)) (now (name .entry)) .image) ⌝ }
+    ensures { λ r. ⌜ (r ≡ resultOf (rules.remove 512 (now (image .entry)) (now (name .entry)) .answer)) × (now (image .exit) ≡ rules.remove 512 (now (image .entry)) (now (name .entry)) .image) ⌝ }
 {
     of_done(tfs_change::remove(image, name))
 }
@@ -135,7 +135,7 @@ pub extern "C" fn tfs_remove(image: &mut [u8], name: &[u8]) -> TfsResult
 // The value is the handle of the file with this name.
 #[no_mangle]
 pub extern "C" fn tfs_open(image: &[u8], name: &[u8]) -> TfsResult
-    ensures { λ r. ⌜ Tells r (rules.openAnswer 512 (now (image .entry)) (now (name .entry))) ⌝ }
+    ensures { λ r. ⌜ r ≡ resultOf (rules.openAnswer 512 (now (image .entry)) (now (name .entry))) ⌝ }
 {
     of_answer(tfs_look::open(image, name))
 }
@@ -143,7 +143,7 @@ pub extern "C" fn tfs_open(image: &[u8], name: &[u8]) -> TfsResult
 // Reads from the file's offset on; the value is the count, the rest of the buffer stays.
 #[no_mangle]
 pub extern "C" fn tfs_read(image: &[u8], handle: u32, offset: u32, buf: &mut [u8]) -> TfsResult
-    ensures { λ r. ⌜ Tells r (rules.read 512 (now (image .entry)) handle offset (now (buf .entry)) .answer) × (now (buf .exit) ≡ rules.read 512 (now (image .entry)) handle offset (now (buf .entry)) .buffer) ⌝ }
+    ensures { λ r. ⌜ (r ≡ resultOf (rules.read 512 (now (image .entry)) handle offset (now (buf .entry)) .answer)) × (now (buf .exit) ≡ rules.read 512 (now (image .entry)) handle offset (now (buf .entry)) .buffer) ⌝ }
 {
     of_answer(tfs_transfer::read(image, handle, offset, buf))
 }
@@ -151,7 +151,7 @@ pub extern "C" fn tfs_read(image: &[u8], handle: u32, offset: u32, buf: &mut [u8
 // Writes into the file from the offset on, as far as it reaches; the value is the count.
 #[no_mangle]
 pub extern "C" fn tfs_write(image: &mut [u8], handle: u32, offset: u32, buf: &[u8]) -> TfsResult
-    ensures { λ r. ⌜ Tells r (rules.write 512 (now (image .entry)) handle offset (now (buf .entry)) .answer) × (now (image .exit) ≡ rules.write 512 (now (image .entry)) handle offset (now (buf .entry)) .image) ⌝ }
+    ensures { λ r. ⌜ (r ≡ resultOf (rules.write 512 (now (image .entry)) handle offset (now (buf .entry)) .answer)) × (now (image .exit) ≡ rules.write 512 (now (image .entry)) handle offset (now (buf .entry)) .image) ⌝ }
 {
     of_answer(tfs_transfer::write(image, handle, offset, buf))
 }
@@ -159,7 +159,7 @@ pub extern "C" fn tfs_write(image: &mut [u8], handle: u32, offset: u32, buf: &[u
 // The value is 512 times the free blocks.
 #[no_mangle]
 pub extern "C" fn tfs_free_bytes(image: &[u8]) -> TfsResult
-    ensures { λ r. ⌜ Tells r (rules.freeAnswer 512 (now (image .entry))) ⌝ }
+    ensures { λ r. ⌜ r ≡ resultOf (rules.freeAnswer 512 (now (image .entry))) ⌝ }
 {
     of_answer(tfs_look::free_bytes(image))
 }
@@ -214,7 +214,7 @@ fn of_entry(e: Entry, name: [u8; 16]) -> TfsSlot
 // What stands in a slot.
 #[no_mangle]
 pub extern "C" fn tfs_list(image: &[u8], slot: u32) -> TfsSlot
-    ensures { λ r. ⌜ TellsSlot r (rules.listAnswer 512 (now (image .entry)) slot) ⌝ }
+    ensures { λ r. ⌜ r ≡ slotOf (rules.listAnswer 512 (now (image .entry)) slot) ⌝ }
 {
     let l = tfs_look::list(image, slot);
     let entry = l.entry;

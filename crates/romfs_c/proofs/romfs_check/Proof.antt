@@ -1,7 +1,7 @@
 -- `romfs_check` meets its contract: each case of the answer told as numbers.
 use mathlib.Core.Path.{ap, _∙_}
 use Rattle.romfs_rules.specs.Answers.{checked, granted}
-use Rattle.romfs_c.specs.Result.{tells-by, checked-is}
+use Rattle.romfs_c.specs.Result.{result-is, checked-is}
 use borrow.Author.Needs.{needs}
 use Rattle.romfs_c.proofs.romfs_check.Statement.{statement}
 use Rattle.romfs_c.proofs.romfs_check.Tie as tie
@@ -16,7 +16,7 @@ of-check-requires c κs = search needs
 
 -- src/lib.rt:67:1
 returns : tie.Need-returns
-returns c = tells-by (c .of-check .ensures) (checked-is (c .before .check .result) ∙ ap (λ v. checked v (granted 0)) (c .before .check .ensures .0))
+returns c = result-is (c .of-check .result) (c .of-check .ensures) (checked-is (c .before .check .result) ∙ ap (λ v. checked v (granted 0)) (c .before .check .ensures .0))
 
 pub romfs-check-spec : {M : Type 1} → statement M
 romfs-check-spec = tie.close (tie.spec check-requires of-check-requires returns)

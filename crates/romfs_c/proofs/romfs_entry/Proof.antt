@@ -1,5 +1,5 @@
 -- `romfs_entry` meets its contract: each case of the answer told as numbers.
-use Rattle.romfs_c.specs.Result.{header-by}
+use Rattle.romfs_c.specs.Result.{header-is}
 use borrow.Author.Needs.{needs}
 use Rattle.romfs_c.proofs.romfs_entry.Statement.{statement}
 use Rattle.romfs_c.proofs.romfs_entry.Tie as tie
@@ -14,7 +14,7 @@ of-entry-requires c κs = search needs
 
 -- src/lib.rt:138:1
 returns : tie.Need-returns
-returns c = header-by (c .of-entry .result) (c .of-entry .ensures) (c .before .entry .ensures .0)
+returns c = header-is (c .of-entry .result) (c .of-entry .ensures) (c .before .entry .ensures .0)
 
 pub romfs-entry-spec : {M : Type 1} → statement M
 romfs-entry-spec = tie.close (tie.spec entry-requires of-entry-requires returns)

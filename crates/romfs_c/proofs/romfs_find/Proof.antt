@@ -1,5 +1,5 @@
 -- `romfs_find` meets its contract: each case of the answer told as numbers.
-use Rattle.romfs_c.specs.Result.{tells-by}
+use Rattle.romfs_c.specs.Result.{result-is}
 use borrow.Author.Needs.{needs}
 use Rattle.romfs_c.proofs.romfs_find.Statement.{statement}
 use Rattle.romfs_c.proofs.romfs_find.Tie as tie
@@ -14,7 +14,7 @@ of-find-requires c κs = search needs
 
 -- src/lib.rt:85:1
 returns : tie.Need-returns
-returns c = tells-by (c .of-find .ensures) (c .before .find .ensures .0)
+returns c = result-is (c .of-find .result) (c .of-find .ensures) (c .before .find .ensures .0)
 
 pub romfs-find-spec : {M : Type 1} → statement M
 romfs-find-spec = tie.close (tie.spec find-requires of-find-requires returns)

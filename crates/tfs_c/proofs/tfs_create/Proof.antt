@@ -1,6 +1,6 @@
 -- `tfs_create` meets its contract: each case of the answer told as numbers.
 use borrow.Author.Needs.{needs}
-use Rattle.tfs_c.specs.Result.{tells-by}
+use Rattle.tfs_c.specs.Result.{result-is}
 use Rattle.tfs_c.proofs.tfs_create.Statement.{statement}
 use Rattle.tfs_c.proofs.tfs_create.Tie as tie
 
@@ -20,7 +20,7 @@ same-length c = search needs
 returns : tie.Need-returns
 returns c =
     let call = c .before .before .before .create .ensures in
-    (tells-by (c .of-answer .ensures) (call .0), call .1)
+    (result-is (c .of-answer .result) (c .of-answer .ensures) (call .0), call .1)
 
 pub tfs-create-spec : {M : Type 1} → statement M
 tfs-create-spec = tie.close (tie.spec create-requires of-answer-requires same-length returns)

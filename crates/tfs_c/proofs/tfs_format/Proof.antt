@@ -1,6 +1,6 @@
 -- `tfs_format` meets its contract: each case of the answer told as numbers.
 use borrow.Author.Needs.{needs}
-use Rattle.tfs_c.specs.Result.{tells-by}
+use Rattle.tfs_c.specs.Result.{result-is}
 use Rattle.tfs_c.proofs.tfs_format.Statement.{statement}
 use Rattle.tfs_c.proofs.tfs_format.Tie as tie
 
@@ -20,7 +20,7 @@ same-length c = search needs
 returns : tie.Need-returns
 returns c =
     let call = c .before .before .before .format .ensures in
-    (tells-by (c .of-done .ensures) (call .0), call .1)
+    (result-is (c .of-done .result) (c .of-done .ensures) (call .0), call .1)
 
 pub tfs-format-spec : {M : Type 1} → statement M
 tfs-format-spec = tie.close (tie.spec format-requires of-done-requires same-length returns)

@@ -1,7 +1,7 @@
 -- `tfs_list` meets its contract: each case of the answer told as numbers.
 use mathlib.Core.Path.{_∙_}
 use borrow.Author.Needs.{needs}
-use Rattle.tfs_c.specs.Result.{slot-by}
+use Rattle.tfs_c.specs.Result.{slot-is}
 use Rattle.tfs_c.proofs.tfs_list.Statement.{statement}
 use Rattle.tfs_c.proofs.tfs_list.Tie as tie
 
@@ -17,7 +17,7 @@ of-entry-requires c κs = search needs
 returns : tie.Need-returns
 returns c =
     let call = c .before .before .list .ensures in
-    (slot-by (c .of-entry .result) (c .of-entry .ensures .0) (call .0), c .of-entry .ensures .1 ∙ call .1)
+    slot-is (c .of-entry .result) (c .of-entry .ensures .0) (call .0) (c .of-entry .ensures .1 ∙ call .1)
 
 pub tfs-list-spec : {M : Type 1} → statement M
 tfs-list-spec = tie.close (tie.spec list-requires of-entry-requires returns)

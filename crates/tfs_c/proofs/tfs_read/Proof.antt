@@ -1,6 +1,6 @@
 -- `tfs_read` meets its contract: each case of the answer told as numbers.
 use borrow.Author.Needs.{needs}
-use Rattle.tfs_c.specs.Result.{tells-by}
+use Rattle.tfs_c.specs.Result.{result-is}
 use Rattle.tfs_c.proofs.tfs_read.Statement.{statement}
 use Rattle.tfs_c.proofs.tfs_read.Tie as tie
 
@@ -20,7 +20,7 @@ same-length c = search needs
 returns : tie.Need-returns
 returns c =
     let call = c .before .before .before .read .ensures in
-    (tells-by (c .of-answer .ensures) (call .0), call .1)
+    (result-is (c .of-answer .result) (c .of-answer .ensures) (call .0), call .1)
 
 pub tfs-read-spec : {M : Type 1} → statement M
 tfs-read-spec = tie.close (tie.spec read-requires of-answer-requires same-length returns)

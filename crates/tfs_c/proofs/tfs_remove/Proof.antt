@@ -1,6 +1,6 @@
 -- `tfs_remove` meets its contract: each case of the answer told as numbers.
 use borrow.Author.Needs.{needs}
-use Rattle.tfs_c.specs.Result.{tells-by}
+use Rattle.tfs_c.specs.Result.{result-is}
 use Rattle.tfs_c.proofs.tfs_remove.Statement.{statement}
 use Rattle.tfs_c.proofs.tfs_remove.Tie as tie
 
@@ -20,7 +20,7 @@ same-length c = search needs
 returns : tie.Need-returns
 returns c =
     let call = c .before .before .before .remove .ensures in
-    (tells-by (c .of-done .ensures) (call .0), call .1)
+    (result-is (c .of-done .result) (c .of-done .ensures) (call .0), call .1)
 
 pub tfs-remove-spec : {M : Type 1} → statement M
 tfs-remove-spec = tie.close (tie.spec remove-requires of-done-requires same-length returns)

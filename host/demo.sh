@@ -1,0 +1,36 @@
+#!/usr/bin/env bash
+# Builds the proved libraries and the command line, then shows the main job on a sample volume.
+set -euo pipefail
+cd "$(dirname "$0")/.."
+
+echo "Building (the proofs are checked first: some minutes on a fresh machine)"
+for library in tfs_c romfs_c; do
+    rt staticlib "$library" 2>&1 | tail -n 1
+done
+(cd host && cargo build --quiet --release --offline -p tfs)
+
+folder=$(mktemp -d)
+trap 'rm -rf "$folder"' EXIT
+tool=$PWD/host/target/release/tfs
+cd "$folder"
+
+# Shows a command, then runs it; a refusal is part of the show.
+show() {
+    echo
+    echo "\$ tfs $*"
+    "$tool" "$@" || echo "(exit status $?)"
+}
+
+printf 'tRCD 14\ntRP 14\ntRAS 33\n' > timing.txt
+show make pump.img --size 64K --label PUMP
+show put pump.img timing.txt --name TIMING
+show list pump.img
+show free pump.img
+show get pump.img TIMING -
+show dump pump.img slot 0
+
+echo
+echo "One bit of the map is damaged: block 4 is marked free."
+printf '\x0f' | dd of=pump.img bs=1 seek=515 conv=notrunc status=none
+show check pump.img
+show get pump.img TIMING -

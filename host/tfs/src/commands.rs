@@ -1,0 +1,244 @@
+//! The commands: their words, their help, and what they call.
+
+use crate::arguments::{size, Arguments, Options};
+use crate::failure::{Failure, Outcome};
+use crate::{dump, rom, volume};
+use std::ffi::OsString;
+use std::os::unix::ffi::OsStrExt;
+
+struct Command {
+    name: &'static str,
+    usage: &'static str,
+    about: &'static str,
+    /// The least and the greatest number of plain words.
+    words: (usize, usize),
+    options: Options,
+    run: fn(&Arguments) -> Outcome,
+}
+
+const NO_OPTIONS: Options = Options {
+    valued: &[],
+    flags: &[],
+};
+
+const COMMANDS: [Command; 12] = [
+    Command {
+        name: "make",
+        usage: "IMAGE --size BYTES [--label NAME] [--force]",
+        about: "Makes an empty volume in a new file.
+BYTES is 1536 or more; 64K and 2M are understood. Bytes past 2M are never used.
+NAME is the volume's name, of at most 15 bytes. --force replaces a file that stands there.",
+        words: (1, 1),
+        options: Options {
+            valued: &["--size", "--label"],
+            flags: &["--force"],
+        },
+        run: make,
+    },
+    Command {
+        name: "check",
+        usage: "IMAGE",
+        about: "Prints \"consistent\", or refuses with the first fault and its slot or block.",
+        words: (1, 1),
+        options: NO_OPTIONS,
+        run: |given| volume::check(given.path(0)),
+    },
+    Command {
+        name: "list",
+        usage: "IMAGE",
+        about: "Prints a line for each file: slot, handle, size, name.
+In names the backslash and bytes that are not printable ASCII are written \\xNN.",
+        words: (1, 1),
+        options: NO_OPTIONS,
+        run: |given| volume::list(given.path(0)),
+    },
+    Command {
+        name: "free",
+        usage: "IMAGE",
+        about: "Prints the free bytes: 512 for each free block. A file needs one block for its inode.",
+        words: (1, 1),
+        options: NO_OPTIONS,
+        run: |given| volume::free(given.path(0)),
+    },
+    Command {
+        name: "put",
+        usage: "IMAGE HOSTFILE [--name NAME] [--replace]",
+        about: "Puts a host file into the volume, under its own name or under NAME.
+HOSTFILE may be - for standard input. A name that stands is refused, unless --replace is given.",
+        words: (2, 2),
+        options: Options {
+            valued: &["--name"],
+            flags: &["--replace"],
+        },
+        run: |given| {
+            let name = given.value("--name").map(|name| name.as_bytes());
+            volume::put(given.path(0), given.path(1), name, given.flag("--replace"))
+        },
+    },
+    Command {
+        name: "get",
+        usage: "IMAGE NAME [HOSTFILE]",
+        about: "Writes a file of the volume to HOSTFILE, or to a host file NAME in the working folder.
+HOSTFILE may be - for standard output. A host file that stands there is replaced.",
+        words: (2, 3),
+        options: NO_OPTIONS,
+        run: |given| volume::get(given.path(0), given.word(1), given.path_if_given(2)),
+    },
+    Command {
+        name: "remove",
+        usage: "IMAGE NAME",
+        about: "Removes a file from the volume.",
+        words: (2, 2),
+        options: NO_OPTIONS,
+        run: |given| volume::remove(given.path(0), given.bytes(1)),
+    },
+    Command {
+        name: "dump",
+        usage: "IMAGE slot N | inode N | map | header",
+        about: "Prints bytes of the volume in hex, and what they mean.
+This is the tool's own reading of the bytes, not a request of the proved library: it checks
+nothing, and works on damaged volumes too. N is a slot, 0 to 24, or the block of an inode.",
+        words: (2, 3),
+        options: NO_OPTIONS,
+        run: dump,
+    },
+    Command {
+        name: "rom check",
+        usage: "IMAGE",
+        about: "Prints \"accepted\", or refuses with the first fault and its header's offset.",
+        words: (1, 1),
+        options: NO_OPTIONS,
+        run: |given| rom::check(given.path(0)),
+    },
+    Command {
+        name: "rom list",
+        usage: "IMAGE",
+        about: "Prints the tree, a line for each entry: header's offset, x if executable, type, size, name.
+Names are indented by the depth of their list and written as by tfs list. After a name comes
+what a link leads to, or the numbers of a device.",
+        words: (1, 1),
+        options: NO_OPTIONS,
+        run: |given| rom::list(given.path(0)),
+    },
+    Command {
+        name: "rom extract",
+        usage: "IMAGE FOLDER",
+        about: "Makes FOLDER, which must not exist yet, with the files, directories and links of the image.
+Prints a line for each entry that is skipped: a device, socket or fifo, a name that the host
+cannot have, a name that stands twice. Nothing is written outside of FOLDER.",
+        words: (2, 2),
+        options: NO_OPTIONS,
+        run: |given| rom::extract(given.path(0), given.path(1)),
+    },
+    Command {
+        name: "rom cat",
+        usage: "IMAGE PATH",
+        about: "Writes the content of a file to standard output; of a symbolic link, what it leads to.
+Hard links are followed, symbolic links are not.",
+        words: (2, 2),
+        options: NO_OPTIONS,
+        run: |given| rom::cat(given.path(0), given.bytes(1)),
+    },
+];
+
+const STATUS: &str = "Exit status: 0 done; 1 refused by the rules of the filesystem; 2 wrong usage;
+3 a host file cannot be read or written. After a failure every file is as it was.\n";
+
+/// Runs the command that words ask for.
+pub fn run(words: Vec<OsString>) -> Outcome {
+    if words.first().is_some_and(|word| word == "--version") {
+        return Ok(format!("tfs {}\n", env!("CARGO_PKG_VERSION")).into_bytes());
+    }
+    let mut options = words.iter().take_while(|word| *word != "--");
+    if options.any(|word| word == "--help" || word == "-h") {
+        return Ok(help(&words).into_bytes());
+    }
+    let command = asked(&words)?;
+    let given = command
+        .parse(&words[command.length()..])
+        .map_err(|why| command.misused(&why))?;
+    (command.run)(&given)
+}
+
+fn asked(words: &[OsString]) -> Result<&'static Command, Failure> {
+    let known = |command: &&Command| words.len() >= command.length() && command.fits(words);
+    COMMANDS.iter().find(known).ok_or_else(|| {
+        let first = words.first().map(|word| word.display().to_string());
+        let what = first.map_or("no command".into(), |word| {
+            format!("{word}: no such command")
+        });
+        Failure::Usage(format!("{what}; tfs --help lists them"))
+    })
+}
+
+impl Command {
+    /// Whether words begin with the command's name, as far as there are words.
+    fn fits(&self, words: &[OsString]) -> bool {
+        self.name
+            .split(' ')
+            .zip(words)
+            .all(|(name, word)| word == name)
+    }
+
+    fn length(&self) -> usize {
+        self.name.split(' ').count()
+    }
+
+    fn parse(&self, words: &[OsString]) -> Result<Arguments, String> {
+        let given = Arguments::parse(words, self.options)?;
+        let (least, most) = self.words;
+        match given.count() {
+            count if count < least => Err("an argument is missing".to_string()),
+            count if count > most => Err("too many arguments".to_string()),
+            _ => Ok(given),
+        }
+    }
+
+    fn misused(&self, why: &str) -> Failure {
+        let (name, usage) = (self.name, self.usage);
+        Failure::Usage(format!("{name}: {why}; usage: tfs {name} {usage}"))
+    }
+
+    fn help(&self) -> String {
+        let (name, usage, about) = (self.name, self.usage, self.about);
+        format!("usage: tfs {name} {usage}\n\n{about}\n\n")
+    }
+}
+
+/// The help of the commands that words name, or of the whole tool.
+fn help(words: &[OsString]) -> String {
+    let is_option = |word: &OsString| word.as_bytes().starts_with(b"-");
+    let end = words.iter().position(is_option).unwrap_or(words.len());
+    let named = COMMANDS
+        .iter()
+        .filter(|command| command.fits(&words[..end]));
+    let texts: String = named.map(Command::help).collect();
+    if end == 0 || texts.is_empty() {
+        overview()
+    } else {
+        texts + STATUS
+    }
+}
+
+fn overview() -> String {
+    let line = |command: &Command| format!("  tfs {} {}\n", command.name, command.usage);
+    let lines: String = COMMANDS.iter().map(line).collect();
+    format!(
+        "A bench tool for TFS volumes and romfs images.\n\n{lines}\n\
+         tfs COMMAND --help tells more of a command, tfs --version the version.\n\n{STATUS}"
+    )
+}
+
+fn make(given: &Arguments) -> Outcome {
+    let Some(length) = given.value("--size") else {
+        return Err(Failure::Usage("make: --size is needed".to_string()));
+    };
+    let label = given.value("--label").unwrap_or_default().as_bytes();
+    volume::make(given.path(0), size(length)?, label, given.flag("--force"))
+}
+
+fn dump(given: &Arguments) -> Outcome {
+    let number = (given.count() == 3).then(|| given.word(2));
+    let part = dump::Part::asked(given.word(1), number)?;
+    dump::dump(given.path(0), part)
+}

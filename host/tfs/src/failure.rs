@@ -1,0 +1,49 @@
+//! Why a command failed, in one line, and the exit status that tells it.
+
+use crate::words;
+use proved::Refusal;
+use std::fmt;
+use std::path::{Path, PathBuf};
+
+/// What a command gives for standard output, or why it failed.
+pub type Outcome = Result<Vec<u8>, Failure>;
+
+/// Why a command failed.
+#[derive(Debug)]
+pub enum Failure {
+    /// The command line is wrong.
+    Usage(String),
+    /// The rules of the filesystem in this file refuse it.
+    Refused(PathBuf, Refusal),
+    /// This host file cannot be read or written.
+    Host(PathBuf, String),
+}
+
+impl Failure {
+    /// A failure with a host file.
+    pub fn host(path: &Path, why: impl fmt::Display) -> Self {
+        Self::Host(path.to_path_buf(), why.to_string())
+    }
+
+    /// The exit status.
+    pub fn status(&self) -> u8 {
+        match self {
+            Self::Refused(..) => 1,
+            Self::Usage(_) => 2,
+            Self::Host(..) => 3,
+        }
+    }
+}
+
+impl fmt::Display for Failure {
+    fn fmt(&self, f: &mut fmt::Formatter<'_>) -> fmt::Result {
+        match self {
+            Self::Usage(why) => f.write_str(why),
+            Self::Refused(image, refusal) => {
+                let (number, words) = (refusal.number, words::refusal(*refusal));
+                write!(f, "{}: refused {number}: {words}", image.display())
+            }
+            Self::Host(path, why) => write!(f, "{}: {why}", path.display()),
+        }
+    }
+}

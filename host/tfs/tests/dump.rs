@@ -1,0 +1,92 @@
+//! The bytes of a volume, sound and damaged.
+
+mod bench;
+
+use bench::{some, Folder};
+
+const NOTE: &str = "read by this tool from the bytes alone; the volume is not checked\n";
+
+fn dump(folder: &Folder, part: &str) -> String {
+    let text = folder.tfs(&format!("dump v {part}")).text();
+    text.strip_prefix(NOTE).unwrap().to_string()
+}
+
+fn with_file(name: &str) -> Folder {
+    let folder = Folder::new(name);
+    folder.tfs("make v --size 16K --label PUMP").granted();
+    folder.write("TIMING", &some(1000));
+    folder.tfs("put v TIMING").granted();
+    folder
+}
+
+#[test]
+fn parts_of_a_sound_volume() {
+    let folder = with_file("dump_sound");
+    let header = "000000  00 00 0e a1 50 55 4d 50 00 00 00 00 00 00 00 00
+000010  00 00 00 00 00 00 00 00 00 00 00 00 00 00 00 00
+*
+magic number: 3745, right\nvolume name: \"PUMP\"\nblocks: 32\n";
+    assert_eq!(dump(&folder, "header"), header);
+    let slot = "000400  00 00 00 03 54 49 4d 49 4e 47 00 00 00 00 00 00
+000410  00 00 00 00\ninode: block 3\nname: \"TIMING\"\n";
+    assert_eq!(dump(&folder, "slot 0"), slot);
+    assert!(dump(&folder, "slot 24").ends_with("\nfree\n"));
+    let map = "reserved: 6: 0-5\nfree: 26: 6-31\nset past the volume's 32 blocks, ignored: 0\n";
+    assert!(dump(&folder, "map").ends_with(map));
+    let inode = "\nsize: 1000\ncontent 0: block 4\ncontent 1: block 5\n";
+    assert!(dump(&folder, "inode 3").ends_with(inode));
+}
+
+#[test]
+fn parts_of_a_damaged_volume() {
+    let folder = with_file("dump_damaged");
+    let mut image = folder.read("v");
+    image[3] = 0;
+    image[4..20].fill(b'x');
+    image[515] = 0x81;
+    image[516] = 1;
+    image[1025] = 1;
+    image[1043] = 7;
+    image[1536] = 1;
+    image[1536 + 508] = 9;
+    folder.write("v", &image);
+    assert_eq!(folder.tfs("check v").status, 1);
+    let header =
+        "magic number: 3584, wrong, 3745 is right\nvolume name: without an end\nblocks: 32\n";
+    assert!(dump(&folder, "header").ends_with(header));
+    let map = "reserved: 2: 0 7\nfree: 30: 1-6 8-31\nset past the volume's 32 blocks, ignored: 1\n";
+    assert!(dump(&folder, "map").ends_with(map));
+    let slot = "inode: block 65539, out of range\nname: \"TIMING\", bytes after its zero\n";
+    assert!(dump(&folder, "slot 0").ends_with(slot));
+    let inode = dump(&folder, "inode 3");
+    assert!(inode.contains("\nsize: 16778216, over 65024\ncontent 0: block 4\n"));
+    assert!(inode.ends_with("content 126: block 150994944, out of range\n"));
+}
+
+#[test]
+fn parts_that_are_cut_off() {
+    let folder = Folder::new("dump_cut");
+    folder.write("v", &some(700));
+    assert!(dump(&folder, "map").ends_with("\ncut off: the image ends at byte 700\n"));
+    folder.refused(
+        "dump v slot 0",
+        3,
+        "v: ends at byte 700, that part begins at 1024",
+    );
+    folder.refused(
+        "dump v inode 4294967295",
+        3,
+        "v: ends at byte 700, that part begins at 2199023255040",
+    );
+}
+
+#[test]
+fn a_part_must_be_named() {
+    let folder = Folder::new("dump_usage");
+    for part in [
+        "block", "slot", "slot 25", "slot x", "inode", "inode -1", "map 0", "header 0",
+    ] {
+        let wanted = "dump: header, map, slot N (0 to 24) or inode N (a block) is needed";
+        folder.refused(&format!("dump v {part}"), 2, wanted);
+    }
+}
