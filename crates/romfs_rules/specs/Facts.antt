@@ -105,11 +105,6 @@ module _ (s : List ℕ) (p bound depth : ℕ) (h : Sound s p bound depth) where
   pub next-to : next s p ≢ 0 → next s p < bound
   next-to z = leb-false bound (next s p) (or-no-r (ltb (next s p) (endOf s p)) (leb bound (next s p)) (next-in z))
 
-  pub own-from : endOf s p ≤ own s bound p
-  own-from =
-      elim (ℕ-discrete (next s p) 0)
-      [ yes z ↦ omega (arith, own-last s bound p z, ends) | no z ↦ omega (arith, own-next s bound p z, next-from z) ]
-
   pub own-to : own s bound p ≤ bound
   own-to =
       elim (ℕ-discrete (next s p) 0)

@@ -7,13 +7,13 @@ use mathlib.Core.List.{List}
 use native.Mathlib.Omega.{arith}
 use native.Mathlib.Decide.{ℕ-discrete}
 use native.Mathlib.Numerals.{sub-one}
-use borrow.Author.Tests.{eq-eqb, ne-eqb, le-leb, lt-leb, leb-true}
+use borrow.Author.Tests.{eq-eqb, ne-eqb, le-leb, lt-leb}
 use lib.Dec.{leb, eqb}
 use Rattle.romfs_rules.specs.Layout.{fullSize, firstRoot, next, info, own, descends, hasList}
 use Rattle.romfs_rules.specs.Rules.{accepted}
 use Rattle.romfs_rules.specs.Reached.{root, along, inside, IsReached, Sound}
 use Rattle.romfs_rules.specs.Check.{walk, leads, towards, seek, isReached}
-use Rattle.romfs_rules.specs.Facts.{both, and-yes-l, and-yes-r, true-false, not-eqb, has-list, list-descends, list-first, room, next-from, next-to, own-next, first-from, first-to}
+use Rattle.romfs_rules.specs.Facts.{both, and-yes-l, true-false, not-eqb, has-list, list-descends, list-first, room, next-from, next-to, own-next, first-from, first-to}
 use Rattle.romfs_rules.specs.Visit.{From, Cases, same, later, below, cases, lies}
 use Rattle.romfs_rules.specs.Lowest.{yes-no}
 use Rattle.romfs_rules.specs.Walked.{Volume, root-in, root-from, has-root, met, Met}
@@ -55,10 +55,6 @@ module _ (s : List ℕ) (want : ℕ) where
 pub leads-some : (to want : ℕ) → leads to want ≡ true → to ≢ 0
 unfolding leads
 leads-some to want e z = true-false (and-yes-l (not (eqb to 0)) (leb to want) e) (rw (eq-eqb to 0 z))
-
-pub leads-le : (to want : ℕ) → leads to want ≡ true → to ≤ want
-unfolding leads
-leads-le to want e = leb-true to want (and-yes-r (not (eqb to 0)) (leb to want) e)
 
 pub leads-to : (to want : ℕ) → to ≢ 0 → to ≤ want → leads to want ≡ true
 unfolding leads

@@ -9,7 +9,7 @@ use native.Mathlib.Decide.{ℕ-discrete, decLt}
 use Rattle.romfs_rules.specs.Layout.{fullSize, firstRoot, next, info, own, hasList}
 use Rattle.romfs_rules.specs.Rules.{Verdict, accepted, refused, short21, magic22, size23, sum24, name25, fault}
 use Rattle.romfs_rules.specs.Reached.{Reached, IsReached, Sound, Linked, Accepted}
-use Rattle.romfs_rules.specs.Check.{andThen, walk, isReached, badLink, links, volume, check}
+use Rattle.romfs_rules.specs.Check.{andThen, walk, badLink, links, volume, check}
 use Rattle.romfs_rules.specs.Facts.{room, next-from, next-to, own-next, first-from, first-to, true-false, fault-sound, sound-fault, fault-place}
 use Rattle.romfs_rules.specs.Visit.{From, Cases, same, later, below, cases, lies, not-both, then-accepted}
 use Rattle.romfs_rules.specs.Lowest.{lowest, Out, fine, broken, out, yes-no}
@@ -123,9 +123,6 @@ pub record FirstLink (s : List ℕ) (p : ℕ) : Type 0 where
   pub lower : (q : ℕ) → IsReached s q → q < p → Linked s q
 
 module _ (s : List ℕ) (v : Volume s) (w : walk s ≡ accepted) where
-  linked-by : (q : ℕ) → ((i : ℕ) → isReached s i ≡ true → badLink s i ≡ false) → IsReached s q → Linked s q
-  linked-by q h r = linked-of s q (h q (reached-is s q v w r))
-
   link-first : (p : ℕ) → links s ≡ refused 29 p → FirstLink s p
   link-first p e =
       let l : LowestLink s 29 p = links-lowest s 29 p e in

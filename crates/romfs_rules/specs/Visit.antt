@@ -1,7 +1,7 @@
 -- The walk goes through the headers that sound headers lead to, in rising order.
 use Prim.Native.Nat.{ℕ, zero, suc, _+_, _-_, _≤_, _<_}
 use mathlib.Core.Path.{_≡_, refl, sym, _∙_}
-use mathlib.Core.Logic.{_≢_, _⊎_, inl, inr}
+use mathlib.Core.Logic.{_≢_}
 use mathlib.Core.Bool.{true, false}
 use mathlib.Core.List.{List}
 use native.Mathlib.Omega.{arith}
@@ -55,10 +55,6 @@ pub then-accepted : (a b : Verdict) → andThen a b ≡ accepted → (a ≡ acce
 then-accepted accepted b e = (refl, e)
 then-accepted (refused n p) b e = absurd (not-both e refl)
 
-then-refused : (a b : Verdict) (n p : ℕ) → andThen a b ≡ refused n p → (a ≡ refused n p) ⊎ ((a ≡ accepted) × (b ≡ refused n p))
-then-refused accepted b n p e = inr (refl, e)
-then-refused (refused m q) b n p e = inl e
-
 -- ---- one law for each way through a list and through an entry
 module _ (s : List ℕ) (entry : ℕ → Verdict) where
   pub list-refused : (f p n q : ℕ) → 0 < f → entry p ≡ refused n q → visitList s entry f p ≡ refused n q
@@ -111,9 +107,6 @@ module _ (s : List ℕ) (test : ℕ → ℕ → ℕ → Verdict) (bound p : ℕ)
 
   pub entry-below : (left depth : ℕ) → left + depth ≡ 8 → left ≢ 0 → visitEntry s test left bound p ≡ accepted → hasList s p ≡ true → listOf (left - 1) ≡ accepted
   entry-below left depth l z e t = sym (entry-list left depth l z (entry-test left depth l e) t) ∙ e
-
-  pub entry-done : (left depth : ℕ) → left + depth ≡ 8 → left ≢ 0 → test bound depth p ≡ accepted → hasList s p ≡ true → listOf (left - 1) ≡ accepted → visitEntry s test left bound p ≡ accepted
-  entry-done left depth l z e t a = entry-list left depth l z e t ∙ a
 
 -- ---- an accepted walk: the test holds of every header that sound ones lead to
 module _ (s : List ℕ) (test : ℕ → ℕ → ℕ → Verdict) where

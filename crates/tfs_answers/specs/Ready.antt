@@ -18,7 +18,6 @@ use Rattle.tfs_rules.specs.Check.{consistent, check, fileClaims}
 use Rattle.tfs_rules.specs.Consistent.{File, Consistent}
 use Rattle.tfs_rules.specs.Consistent as rules
 use Rattle.tfs_rules.specs.CheckMeans.{check-means, used-inode, need-le}
-use Rattle.tfs_rules.specs.Total.{three-blocks}
 use Rattle.tfs_facts.specs.Sizes.{in-image, in-need, size-512}
 use Rattle.tfs_facts.specs.Views.{view-n, view-dir, view-map, inode-block}
 use Rattle.tfs_dir.specs.Find.{findName, slot-of}
@@ -59,9 +58,6 @@ module _ (img : List ℕ) (passed : check 512 img ≡ consistent) where
 
   pub long : 1536 ≤ length img
   long = ok .long
-
-  pub blocks-low : 3 ≤ blocks 512 img
-  blocks-low = subst (λ (n : ℕ). 3 ≤ n) (view-n 512 img) (three-blocks 512 size-512 img (ok .long))
 
   pub blocks-high : blocks 512 img ≤ 4096
   unfolding blocks

@@ -111,9 +111,6 @@ module _ (B : ℕ) (sz : BlockSize B) (img : List ℕ) (ok : Consistent B img) w
     removed-refused =
         handle-refused B (remove B img nm .image) (check-means B sz (remove B img nm .image) .1 (changed B sz img ok (removes nm) g .consistent)) (inode v s) removed-none
 
-    pub removed-handle : (o len : ℕ) → transferView B (view B (remove B img nm .image)) (inode v (slotOf B v nm)) o len ≡ refused 14 0
-    removed-handle = removed-refused .on-transfer
-
   module _ (nm : List ℕ) (z h : ℕ) (e : create B img nm z .answer ≡ value h) where
     yes-create : T (granted (create B img nm z .answer))
     yes-create = subst (λ (a : Answer). T (granted a)) (sym e) tt

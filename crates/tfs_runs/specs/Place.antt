@@ -4,7 +4,6 @@ use Prim.Native.Nat.{ℕ, _+_, _-_, _*_, _/_, _%_, _≤_, _<_, min}
 use mathlib.Core.List.{List}
 use native.Mathlib.Omega.{arith}
 use lib.ListN.{length, getD}
-use Rattle.tfs_rules.specs.Layout.{blocks}
 use Rattle.tfs_rules.specs.View.{View, number, place}
 
 -- the place of position p
@@ -14,11 +13,6 @@ at bs p = getD bs (p / 512) 0 * 512 + p % 512
 -- every block lies inside an image of len bytes
 abbrev pub Inside : List ℕ → ℕ → Type 0
 Inside bs len = (i : ℕ) → i < length bs → getD bs i 0 * 512 + 512 ≤ len
-
--- blocks below N lie inside the image
-pub inside-below : (bs img : List ℕ) → ((i : ℕ) → i < length bs → getD bs i 0 < blocks 512 img) → Inside bs (length img)
-unfolding blocks
-inside-below bs img h i l = omega (arith, h i l)
 
 -- the place of a position of a file whose number of that block the list has
 pub at-place : (v : View) (s : ℕ) (bs : List ℕ) (p : ℕ) → getD bs (p / 512) 0 ≡ number v s (p / 512) → at bs p ≡ place 512 v s p

@@ -1,4 +1,3 @@
-pub mod File
 pub mod Format
 pub mod Place
 pub mod Erase
