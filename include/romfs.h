@@ -12,6 +12,9 @@
  *  - nobody writes to the image or the name during the call.
  * Nothing else is asked: every value of every number, and every byte of the
  * image and the name has a defined answer.
+ *
+ * Hard links are not followed: romfs_find in one and romfs_content of one are
+ * refused with 31. Its target is the info that romfs_entry gives.
  */
 #ifndef ROMFS_H
 #define ROMFS_H
@@ -32,14 +35,14 @@ enum romfs_refusal {
     ROMFS_TOO_SHORT = 21,       /* slice under 32 bytes */
     ROMFS_BAD_MAGIC = 22,       /* not "-rom1fs-" */
     ROMFS_BAD_FULL_SIZE = 23,   /* full size under 32, over the slice, or no multiple of 16 */
-    ROMFS_BAD_VOLUME_SUM = 24,  /* checksum of the volume header not 0 */
+    ROMFS_BAD_VOLUME_SUM = 24,  /* sum of the first min(512, full size) bytes not 0 */
     ROMFS_BAD_VOLUME_NAME = 25, /* volume name without an end */
     ROMFS_BAD_HEADER = 26,      /* end, name, checksum, spec.info or size; place: header */
     ROMFS_BAD_NESTING = 27,     /* next or first header breaks nesting; place: header holding it */
     ROMFS_TOO_DEEP = 28,        /* list at depth 9; place: its directory */
     ROMFS_BAD_LINK = 29,        /* hard link, "." or ".." that leads to no right header; place: header */
     ROMFS_NO_SUCH_NAME = 30,
-    ROMFS_NO_SUCH_HEADER = 31   /* no reached header; find: no directory; content: no file with content */
+    ROMFS_NO_SUCH_HEADER = 31   /* no reached header; find: no directory; content: no regular file or symbolic link */
 };
 
 /* The type of an entry. */
@@ -73,7 +76,8 @@ typedef struct romfs_header {
     uint32_t name_length; /* the name begins at the header's offset + 16 */
 } romfs_header;
 
-/* The answer of romfs_content: where the content lies in the image. */
+/* The answer of romfs_content: where the content lies in the image. Offset plus
+ * length is at most the image's length. */
 typedef struct romfs_part {
     uint32_t refusal;
     uint32_t place;

@@ -59,8 +59,8 @@ TellsHeader r a =
     × (r .next ≡ fieldOf (λ e. e .next) a) × (r .namelen ≡ fieldOf (λ e. e .nameLength) a)
 
 -- ---- content: where it begins and how long it is, or 0 and 0
-abbrev pub partOf : ℕ → Answer ℕ → RomfsPart
-partOf start a = record { refusal = refusalOf a; place = placeOf a; offset = startOf start a; length = valueOf a }
+abbrev pub contentOf : ℕ → Answer ℕ → RomfsPart
+contentOf start a = record { refusal = refusalOf a; place = placeOf a; offset = startOf start a; length = valueOf a }
 
 abbrev pub TellsPart : RomfsPart → ℕ → Answer ℕ → Type 0
 TellsPart r start a =
@@ -96,7 +96,7 @@ header-is r {a} t e =
     let whole : r ≡ headerOf a = λ i. record { refusal = t .0 i; place = t .1 i; kind = t .2 i; executable = t .3 i; info = t .4 i; size = t .5 i; next = t .6 i; namelen = t .7 i } in
     whole ∙ ap headerOf e
 
-pub part-is : (r : RomfsPart) (start : ℕ) {a b : Answer ℕ} → TellsPart r start a → a ≡ b → r ≡ partOf start b
+pub part-is : (r : RomfsPart) (start : ℕ) {a b : Answer ℕ} → TellsPart r start a → a ≡ b → r ≡ contentOf start b
 part-is r start {a} t e =
-    let whole : r ≡ partOf start a = λ i. record { refusal = t .0 i; place = t .1 i; offset = t .2 i; length = t .3 i } in
-    whole ∙ ap (partOf start) e
+    let whole : r ≡ contentOf start a = λ i. record { refusal = t .0 i; place = t .1 i; offset = t .2 i; length = t .3 i } in
+    whole ∙ ap (contentOf start) e

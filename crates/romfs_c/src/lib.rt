@@ -5,7 +5,7 @@ ghost use Rattle.romfs_rules.specs.Check as rules;
 ghost use Rattle.romfs_rules.specs.Answers as answers;
 ghost use Rattle.romfs_rules.specs.Answers.{checked, granted};
 ghost use Rattle.romfs.specs.Told.{toldUnsound, toldFind, toldEntry, toldContent};
-ghost use Rattle.romfs_c.specs.Result.{checkedAnswer, resultOf, headerOf, partOf, Tells, TellsHeader, TellsPart};
+ghost use Rattle.romfs_c.specs.Result.{checkedAnswer, resultOf, headerOf, contentOf, Tells, TellsHeader, TellsPart};
 use romfs::ContentAnswer;
 use romfs::EntryAnswer;
 use romfs::FindAnswer;
@@ -213,7 +213,7 @@ fn of_content(image: &[u8], at: u32, a: ContentAnswer) -> RomfsPart
 // Where the content of a file lies in the image.
 #[no_mangle]
 pub extern "C" fn romfs_content(image: &[u8], at: u32) -> RomfsPart
-    ensures { λ r. ⌜ r ≡ partOf (contentAt (now (image .entry)) at) (answers.contentLength (now (image .entry)) at) ⌝ }
+    ensures { λ r. ⌜ r ≡ contentOf (contentAt (now (image .entry)) at) (answers.contentLength (now (image .entry)) at) ⌝ }
 {
     of_content(image, at, romfs::content_length(image, at))
 }
