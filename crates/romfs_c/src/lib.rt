@@ -20,7 +20,7 @@ pub struct RomfsResult {
     pub value: u32,
 }
 
-// The refusal and its place; the fields of the entry.
+// The refusal and its place; the fields of the entry. The header calls kind type, and namelen name_length.
 #[repr(C)]
 pub struct RomfsHeader {
     pub refusal: u32,

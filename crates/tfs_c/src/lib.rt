@@ -17,7 +17,7 @@ pub struct TfsResult {
     pub value: u32,
 }
 
-// What list gives of a slot: the refusal and its place; 1 for a file; its inode number, size and name.
+// What list gives of a slot: the refusal and its place; 1 for a file; its inode number, size and name. The header calls namelen name_length.
 #[repr(C)]
 pub struct TfsSlot {
     pub refusal: u32,
