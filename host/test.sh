@@ -32,6 +32,12 @@ example() {
         diff -u example/expected.txt "$work/printed"
 }
 
+# Fails where a request uses more stack than the headers say.
+stack() {
+    gcc -std=gnu99 -Wall -Wextra -Werror -O2 -I../include bench/stack.c -L"$libraries" -ltfs_c -lromfs_c -lpthread \
+        -Wl,-z,now -o "$work/stack" && "$work/stack"
+}
+
 for name in tfs_c romfs_c; do
     if [ ! -f "$libraries/lib$name.a" ]; then
         echo "host tests: target/staticlib/lib$name.a is missing; it is made by: rt staticlib $name"
@@ -43,6 +49,7 @@ done
 part "build" cargo build --release --offline
 part "tests" cargo test --offline
 part "C example" example
+part "stack use" stack
 part "comparison" target/release/compare --seconds 5
 if [ $failed != 0 ]; then
     echo "host tests: $failed failed"

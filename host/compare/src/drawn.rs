@@ -52,47 +52,39 @@ fn noise(random: &mut Random) -> Volume {
 pub(crate) fn twist(random: &mut Random, past: &[MadeFile], kind: Kind, arguments: &mut Arguments) {
     let gone = (!past.is_empty()).then(|| &past[random.below(past.len())]);
     match kind {
-        Kind::TfsRead | Kind::TfsWrite => {
-            if let (Some(file), true) = (gone, random.one_in(6)) {
-                arguments.first = file.inode;
-                let around = [0, file.size, file.size.wrapping_sub(1), file.size + 1];
-                arguments.second = random.pick(&around);
-            }
-            if random.one_in(24) {
-                let far = [
-                    LARGEST_FILE - 1,
-                    LARGEST_FILE,
-                    LARGEST_FILE + 1,
-                    1 << 31,
-                    u32::MAX - 511,
-                    u32::MAX,
-                ];
-                arguments.second = random.pick(&far);
-            }
-            if random.one_in(24) {
-                let length =
-                    random.pick(&[LARGEST_FILE as usize, LARGEST_FILE as usize + 1, 70_000]);
-                arguments.buffer = random.bytes(length);
-            }
-        }
-        Kind::TfsOpen | Kind::TfsRemove | Kind::TfsCreate => {
-            if let (Some(file), true) = (gone, random.one_in(6)) {
-                arguments.name = file.name.clone();
-            }
-            if random.one_in(3) {
-                arguments.first = random.below(1500) as u32;
-            }
-            if random.one_in(24) {
-                let far = [
-                    LARGEST_FILE - 512,
-                    LARGEST_FILE - 511,
-                    LARGEST_FILE,
-                    LARGEST_FILE + 1,
-                    u32::MAX,
-                ];
-                arguments.first = random.pick(&far);
-            }
-        }
+        Kind::TfsRead | Kind::TfsWrite => twist_transfer(random, gone, arguments),
+        Kind::TfsOpen | Kind::TfsRemove | Kind::TfsCreate => twist_name(random, gone, arguments),
         _ => {}
+    }
+}
+
+fn twist_transfer(random: &mut Random, gone: Option<&MadeFile>, arguments: &mut Arguments) {
+    const LARGEST: usize = LARGEST_FILE as usize;
+    if let (Some(file), true) = (gone, random.one_in(6)) {
+        arguments.first = file.inode;
+        let size = file.size;
+        arguments.second = random.pick(&[0, size, size.wrapping_sub(1), size + 1]);
+    }
+    if random.one_in(24) {
+        let around = random.pick(&[LARGEST_FILE - 1, LARGEST_FILE, LARGEST_FILE + 1]);
+        let far = [around, around, around, 1 << 31, u32::MAX - 511, u32::MAX];
+        arguments.second = random.pick(&far);
+    }
+    if random.one_in(24) {
+        let length = random.pick(&[LARGEST, LARGEST + 1, 70_000]);
+        arguments.buffer = random.bytes(length);
+    }
+}
+
+fn twist_name(random: &mut Random, gone: Option<&MadeFile>, arguments: &mut Arguments) {
+    if let (Some(file), true) = (gone, random.one_in(6)) {
+        arguments.name = file.name.clone();
+    }
+    if random.one_in(3) {
+        arguments.first = random.below(1500) as u32;
+    }
+    if random.one_in(24) {
+        let around = random.pick(&[LARGEST_FILE - 512, LARGEST_FILE - 511, LARGEST_FILE + 1]);
+        arguments.first = random.pick(&[around, around, LARGEST_FILE, u32::MAX]);
     }
 }

@@ -39,7 +39,7 @@ impl Pair {
         random: &mut Random,
         kind: Kind,
         arguments: &Arguments,
-    ) -> Result<Answer, Difference> {
+    ) -> Result<Answer, Box<Difference>> {
         let name = Lent::new(random, &arguments.name);
         let buffer = Lent::new(random, &arguments.buffer);
         let answers = [0, 1].map(|side| {
@@ -57,13 +57,13 @@ impl Pair {
         if answers[0] == answers[1] && at == [None; 3] {
             return Ok(answers[0]);
         }
-        Err(Difference {
+        Err(Box::new(Difference {
             kind,
             arguments: arguments.clone(),
             image_length: self.image().len(),
             answers,
             at,
-        })
+        }))
     }
 }
 

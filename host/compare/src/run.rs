@@ -32,7 +32,7 @@ pub struct Found {
     /// The number of the request on that image, from 1.
     pub request: u64,
     /// What differs.
-    pub difference: Difference,
+    pub difference: Box<Difference>,
 }
 
 /// Compares two programs until a limit is reached or they differ.
@@ -48,27 +48,14 @@ pub fn run(limits: Limits, sides: [Side; 2]) -> (Tally, Option<Found>) {
             break;
         }
         let before = session.tally.requests();
-        session.random = Random::new(limits.seed.wrapping_mul(0x9E37_79B9_7F4A_7C15) ^ image);
-        // A volume has about ten times as many requests as a romfs image.
-        let volume = if limits.tfs && limits.romfs {
-            image % 10 == 0
-        } else {
-            limits.tfs
-        };
-        let ended = if volume {
-            volumes::on_next(&mut session)
-        } else {
-            roms::on_next(&mut session)
-        };
-        match ended {
+        match session.on_image(&limits, image) {
             Ok(()) => {}
             Err(Stop::Enough) => break,
             Err(Stop::Differs(difference)) => {
-                let request = session.tally.requests() - before + 1;
                 let found = Found {
                     image,
-                    request,
-                    difference: *difference,
+                    request: session.tally.requests() - before + 1,
+                    difference,
                 };
                 return (session.tally, Some(found));
             }
@@ -92,6 +79,17 @@ pub(crate) struct Session {
 }
 
 impl Session {
+    /// Makes the sequence of requests on the image of a number.
+    fn on_image(&mut self, limits: &Limits, image: u64) -> Result<(), Stop> {
+        self.random = Random::new(limits.seed.wrapping_mul(0x9E37_79B9_7F4A_7C15) ^ image);
+        // A volume has about ten times as many requests as a romfs image.
+        if limits.tfs && (!limits.romfs || image.is_multiple_of(10)) {
+            volumes::on_next(self)
+        } else {
+            roms::on_next(self)
+        }
+    }
+
     /// Lends an image to both sides.
     pub(crate) fn pair(&mut self, image: &[u8]) -> Pair {
         Pair::new(&mut self.random, self.sides, image)
@@ -112,7 +110,7 @@ impl Session {
                 self.tally.count(kind, &answer);
                 Ok(answer)
             }
-            Err(difference) => Err(Stop::Differs(Box::new(difference))),
+            Err(difference) => Err(Stop::Differs(difference)),
         }
     }
 }

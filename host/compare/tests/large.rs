@@ -3,7 +3,7 @@
 use compare::sides::{proved, reference};
 use compare::{Answer, Pair};
 use reference::cases::{Arguments, Kind};
-use reference::make::Random;
+use reference::make::{tree_rom, Random};
 
 const MOST: usize = 2_097_152;
 const LENGTHS: [usize; 6] = [MOST, MOST + 1, MOST + 511, MOST + 512, 2_097_664, 3_000_000];
@@ -143,4 +143,21 @@ fn the_largest_files_fill_3203_blocks() {
     assert_eq!(large.ask(Kind::TfsCreate, 0, b"more").refusal(), 11);
     assert_eq!(large.ask(Kind::TfsRemove, 0, b"C"), Answer::default());
     assert_eq!(large.free(), 65_536);
+}
+
+/// A length that 32 bits cannot hold; its bytes are zeros that take no memory until they are used.
+#[test]
+fn images_longer_than_4_gib() {
+    let mut image = vec![0; (1 << 32) + 1024];
+    assert_eq!(proved::tfs::format(&mut image, b"LONG"), Ok(()));
+    assert_eq!(proved::tfs::free_bytes(&image), Ok(2_095_616));
+    assert_eq!(reference::tfs::free_bytes(&image), Ok(2_095_616));
+    assert_eq!(proved::tfs::create(&mut image, b"A", 1_000), Ok(3));
+    assert_eq!(reference::tfs::open(&image, b"A"), Ok(3));
+
+    let rom = tree_rom(3, 2, 5);
+    image[..rom.image.len()].copy_from_slice(&rom.image);
+    assert_eq!(proved::romfs::check(&image), Ok(()));
+    let found = reference::romfs::find(&image, 0, b"d02");
+    assert_eq!(proved::romfs::find(&image, 0, b"d02").ok(), found.ok());
 }

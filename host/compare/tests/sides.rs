@@ -104,7 +104,7 @@ fn a_create_that_zeros_only_part_of_its_last_block() {
 fn keep_the_end(before: &[u8], lents: &mut Lents, inode: usize, size: usize) {
     let image = lents.image.bytes_mut();
     let word = 512 * inode + 4 * size.div_ceil(512);
-    if size % 512 != 0 {
+    if !size.is_multiple_of(512) {
         let block = u32::from_be_bytes(image[word..word + 4].try_into().unwrap()) as usize;
         let end = 512 * block + size % 512..512 * block + 512;
         image[end.clone()].copy_from_slice(&before[end]);
