@@ -4,7 +4,7 @@
 //! bench [--rounds R]
 //! ```
 //!
-//! Each time is the best of R rounds (500 unless given, fewer where one lasts long), in which the proved request, the
+//! Each time is the best of R rounds (2000 unless given, fewer where one lasts long), in which the proved request, the
 //! reference and a plain copy of the same bytes take turns. Nothing passes or fails by time.
 
 #![forbid(unsafe_code)]
@@ -20,7 +20,7 @@ use std::process::ExitCode;
 fn main() -> ExitCode {
     let words: Vec<String> = std::env::args().skip(1).collect();
     let rounds = match &words[..] {
-        [] => Some(500),
+        [] => Some(2000),
         [option, count] if option == "--rounds" => count.parse().ok(),
         _ => None,
     };
