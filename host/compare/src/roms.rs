@@ -6,7 +6,7 @@ use reference::make::{
 };
 
 use crate::rom_grid::{grid, seal};
-use crate::run::{Session, Stop};
+use crate::run::{Comparison, Stop};
 
 const OTHERS: [Kind; 4] = [
     Kind::RomFind,
@@ -16,21 +16,21 @@ const OTHERS: [Kind; 4] = [
 ];
 
 /// Draws an image and makes a sequence of requests on it.
-pub(crate) fn on_next(session: &mut Session) -> Result<(), Stop> {
-    let (made, image) = any_image(&mut session.random);
-    let mut pair = session.pair(&image);
-    let checked = session.ask(&mut pair, Kind::RomCheck, &Arguments::default())?;
+pub(crate) fn on_next(comparison: &mut Comparison) -> Result<(), Stop> {
+    let (made, image) = any_image(&mut comparison.random);
+    let mut pair = comparison.pair(&image);
+    let checked = comparison.ask(&mut pair, Kind::RomCheck, &Arguments::default())?;
     let others = match checked.refusal() {
         0 => 12,
-        _ => session.random.below(4),
+        _ => comparison.random.below(4),
     };
     for _ in 0..others {
-        let kind = session.random.pick(&OTHERS);
-        let mut arguments = romfs_arguments(&mut session.random, &made, &image, kind);
-        if session.random.one_in(16) {
-            arguments.first = session.random.word() >> session.random.below(32);
+        let kind = comparison.random.pick(&OTHERS);
+        let mut arguments = romfs_arguments(&mut comparison.random, &made, &image, kind);
+        if comparison.random.one_in(16) {
+            arguments.first = comparison.random.word() >> comparison.random.below(32);
         }
-        session.ask(&mut pair, kind, &arguments)?;
+        comparison.ask(&mut pair, kind, &arguments)?;
     }
     Ok(())
 }

@@ -37,7 +37,7 @@ pub struct Found {
 
 /// Compares two programs until a limit is reached or they differ.
 pub fn run(limits: Limits, sides: [Side; 2]) -> (Tally, Option<Found>) {
-    let mut session = Session {
+    let mut comparison = Comparison {
         random: Random::new(limits.seed),
         sides,
         tally: Tally::default(),
@@ -47,21 +47,21 @@ pub fn run(limits: Limits, sides: [Side; 2]) -> (Tally, Option<Found>) {
         if limits.until.is_some_and(|until| Instant::now() >= until) {
             break;
         }
-        let before = session.tally.requests();
-        match session.on_image(&limits, image) {
+        let before = comparison.tally.requests();
+        match comparison.on_image(&limits, image) {
             Ok(()) => {}
             Err(Stop::Enough) => break,
             Err(Stop::Differs(difference)) => {
                 let found = Found {
                     image,
-                    request: session.tally.requests() - before + 1,
+                    request: comparison.tally.requests() - before + 1,
                     difference,
                 };
-                return (session.tally, Some(found));
+                return (comparison.tally, Some(found));
             }
         }
     }
-    (session.tally, None)
+    (comparison.tally, None)
 }
 
 /// Why a sequence of requests ends before its time.
@@ -71,14 +71,14 @@ pub(crate) enum Stop {
 }
 
 /// What all sequences share.
-pub(crate) struct Session {
+pub(crate) struct Comparison {
     pub(crate) random: Random,
     sides: [Side; 2],
     tally: Tally,
     most: u64,
 }
 
-impl Session {
+impl Comparison {
     /// Makes the sequence of requests on the image of a number.
     fn on_image(&mut self, limits: &Limits, image: u64) -> Result<(), Stop> {
         self.random = Random::new(limits.seed.wrapping_mul(0x9E37_79B9_7F4A_7C15) ^ image);

@@ -5,7 +5,7 @@ use reference::make::{damage_volume, damage_volume_twice, scramble_volume, MadeF
 use reference::tfs::{BLOCK_SIZE, SLOTS};
 
 use crate::drawn::{any_image, twist};
-use crate::run::{Session, Stop};
+use crate::run::{Comparison, Stop};
 use crate::{Answer, Pair};
 
 const KINDS: [Kind; 24] = [
@@ -36,18 +36,18 @@ const KINDS: [Kind; 24] = [
 ];
 
 /// Draws an image and makes a sequence of requests on it.
-pub(crate) fn on_next(session: &mut Session) -> Result<(), Stop> {
-    let made = any_image(&mut session.random);
+pub(crate) fn on_next(comparison: &mut Comparison) -> Result<(), Stop> {
+    let made = any_image(&mut comparison.random);
     let large = made.blocks > 500;
     let count = if large {
         16
     } else {
-        session.random.between(20, 80)
+        comparison.random.between(20, 80)
     };
-    let mut history = History::new(session, made);
+    let mut history = History::new(comparison, made);
     for _ in 0..count {
         history.step()?;
-        if history.session.random.one_in(if large { 24 } else { 6 }) {
+        if history.comparison.random.one_in(if large { 24 } else { 6 }) {
             history.aside()?;
         }
     }
@@ -56,7 +56,7 @@ pub(crate) fn on_next(session: &mut Session) -> Result<(), Stop> {
 
 /// A volume in the course of requests.
 struct History<'a> {
-    session: &'a mut Session,
+    comparison: &'a mut Comparison,
     pair: Pair,
     /// What stands in the volume, as far as requests were granted; its image is not kept up.
     made: Volume,
@@ -65,11 +65,11 @@ struct History<'a> {
 }
 
 impl<'a> History<'a> {
-    fn new(session: &'a mut Session, made: Volume) -> Self {
-        let pair = session.pair(&made.image);
+    fn new(comparison: &'a mut Comparison, made: Volume) -> Self {
+        let pair = comparison.pair(&made.image);
         let past = made.files.clone();
         Self {
-            session,
+            comparison,
             pair,
             made,
             past,
@@ -79,10 +79,10 @@ impl<'a> History<'a> {
     /// Makes one request and takes note of what it has changed.
     fn step(&mut self) -> Result<(), Stop> {
         let (kind, arguments) = self.request();
-        let answer = self.session.ask(&mut self.pair, kind, &arguments)?;
+        let answer = self.comparison.ask(&mut self.pair, kind, &arguments)?;
         match answer.refusal() {
             0 => self.note(kind, &arguments, &answer),
-            1..=7 if self.session.random.one_in(4) => self.format()?,
+            1..=7 if self.comparison.random.one_in(4) => self.format()?,
             _ => {}
         }
         Ok(())
@@ -92,7 +92,7 @@ impl<'a> History<'a> {
     fn format(&mut self) -> Result<(), Stop> {
         let arguments = Arguments::default();
         let kind = Kind::TfsFormat;
-        let answer = self.session.ask(&mut self.pair, kind, &arguments)?;
+        let answer = self.comparison.ask(&mut self.pair, kind, &arguments)?;
         if answer.refusal() == 0 {
             self.note(kind, &arguments, &answer);
         }
@@ -101,7 +101,7 @@ impl<'a> History<'a> {
 
     /// Makes a few requests on a damaged copy, which then is thrown away.
     fn aside(&mut self) -> Result<(), Stop> {
-        let random = &mut self.session.random;
+        let random = &mut self.comparison.random;
         self.made.image = self.pair.image().to_vec();
         if self.made.image.len() < 3 * BLOCK_SIZE {
             return Ok(());
@@ -117,16 +117,16 @@ impl<'a> History<'a> {
             Some((image, _)) => image,
             None => scramble_volume(random, &self.made),
         };
-        let mut pair = self.session.pair(&damaged);
-        for _ in 0..self.session.random.between(1, 4) {
+        let mut pair = self.comparison.pair(&damaged);
+        for _ in 0..self.comparison.random.between(1, 4) {
             let (kind, arguments) = self.request();
-            self.session.ask(&mut pair, kind, &arguments)?;
+            self.comparison.ask(&mut pair, kind, &arguments)?;
         }
         Ok(())
     }
 
     fn request(&mut self) -> (Kind, Arguments) {
-        let random = &mut self.session.random;
+        let random = &mut self.comparison.random;
         let mut kind = random.pick(&KINDS);
         if kind == Kind::TfsFormat && !random.one_in(3) {
             kind = Kind::TfsCheck;
