@@ -7,6 +7,7 @@ cd "$(dirname "$0")"
 libraries=../../target/staticlib
 work=$(mktemp -d)
 trap 'rm -rf "$work"' EXIT
+cksum "$libraries"/*.a >"$work/before"
 
 cargo build --release --offline --quiet
 gcc -std=gnu99 -Wall -Wextra -O2 -I../../include stack.c -L"$libraries" -ltfs_c -lromfs_c -lpthread -Wl,-z,now \
@@ -55,3 +56,7 @@ Each request runs on a thread whose stack is painted before; what a thread that 
 
 TEXT
 "$work/stack"
+if ! cksum "$libraries"/*.a | cmp -s - "$work/before"; then
+    echo "report: the libraries changed while they were measured; the report is void" >&2
+    exit 1
+fi

@@ -12,6 +12,7 @@ mod drawn;
 mod lent;
 pub mod options;
 mod pair;
+mod rom_forest;
 mod rom_grid;
 mod roms;
 mod run;

@@ -5,6 +5,7 @@ use reference::make::{
     damage_rom, damage_rom_twice, flat_rom, rom, scramble_rom, tree_rom, Random, Rom, RomPlan,
 };
 
+use crate::rom_forest::forest;
 use crate::rom_grid::{grid, seal};
 use crate::run::{Comparison, Stop};
 
@@ -17,7 +18,8 @@ const OTHERS: [Kind; 4] = [
 
 /// Draws an image and makes a sequence of requests on it.
 pub(crate) fn on_next(comparison: &mut Comparison) -> Result<(), Stop> {
-    let (made, image) = any_image(&mut comparison.random);
+    let (mut made, image) = any_image(&mut comparison.random);
+    thin(&mut comparison.random, &mut made);
     let mut pair = comparison.pair(&image);
     let checked = comparison.ask(&mut pair, Kind::RomCheck, &Arguments::default())?;
     let others = match checked.refusal() {
@@ -35,6 +37,15 @@ pub(crate) fn on_next(comparison: &mut Comparison) -> Result<(), Stop> {
     Ok(())
 }
 
+/// Leaves some entries to draw arguments from: each of their names is looked up for that.
+fn thin(random: &mut Random, made: &mut Rom) {
+    const ENOUGH: usize = 20;
+    if made.entries.len() > ENOUGH {
+        random.shuffle(&mut made.entries);
+        made.entries.truncate(ENOUGH);
+    }
+}
+
 /// A tree as it was made, and the image of it, sound or damaged.
 fn any_image(random: &mut Random) -> (Rom, Vec<u8>) {
     let made = match random.below(1000) {
@@ -46,6 +57,10 @@ fn any_image(random: &mut Random) -> (Rom, Vec<u8>) {
             return (made, image);
         }
         100..=299 => grid(random),
+        300..=329 => {
+            let count = random.pick(&[100, 300, 300, 600, 600, 1200, 3000]);
+            forest(random, count)
+        }
         _ => {
             let plan = plan(random);
             rom(random, plan)
