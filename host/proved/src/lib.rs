@@ -4,6 +4,7 @@
 
 #![warn(missing_docs)]
 
+pub mod c;
 pub mod romfs;
 pub mod tfs;
 

@@ -6,8 +6,8 @@ use std::collections::HashSet;
 
 use reference::cases::{romfs_cases, tfs_cases, Case, Kind};
 use reference::make::{
-    any_volume, damage_rom, damage_rom_twice, damage_volume, damage_volume_twice, rom,
-    scramble_rom, scramble_volume, volume, Random, RomPlan, Shape,
+    any_volume, damage_rom, damage_rom_twice, damage_volume, damage_volume_twice, flat_rom, rom,
+    scramble_rom, scramble_volume, tree_rom, volume, Random, RomPlan, Shape,
 };
 use reference::{romfs, tfs, Refusal};
 
@@ -105,6 +105,26 @@ fn made_roms_are_allowed() {
         (0..8).for_each(|kind| assert!(kinds.contains(&(kind, false, length))));
     }
     assert!(kinds.contains(&(1, true, 1)) && kinds.contains(&(1, true, 2)));
+}
+
+#[test]
+fn large_roms_are_allowed() {
+    let flat = flat_rom(300, 70);
+    let tree = tree_rom(5, 3, 20);
+    for (made, count) in [(&flat, 370), (&tree, 155)] {
+        assert_eq!(made.entries.len(), count);
+        assert_eq!(naive::romfs_fault(&made.image), None);
+        for placed in &made.entries {
+            let entry = romfs::entry(&made.image, placed.at).unwrap();
+            assert_eq!((entry.kind, entry.next), (placed.kind, placed.next));
+        }
+    }
+    let link = romfs::find(&flat.image, 0, b"l00000069").unwrap();
+    let file = romfs::find(&flat.image, 0, b"f00000069").unwrap();
+    assert_eq!(romfs::entry(&flat.image, link).unwrap().spec_info, file);
+    let lower = |dir: u32, name: &[u8]| romfs::find(&tree.image, dir, name).unwrap();
+    let file = lower(lower(lower(0, b"d04"), b"d03"), b"f02");
+    assert_eq!(romfs::content(&tree.image, file), &[2; 20]);
 }
 
 #[test]

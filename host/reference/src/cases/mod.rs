@@ -3,8 +3,8 @@
 mod on_roms;
 mod on_volumes;
 
-pub use on_roms::romfs_cases;
-pub use on_volumes::tfs_cases;
+pub use on_roms::{romfs_arguments, romfs_cases};
+pub use on_volumes::{tfs_arguments, tfs_cases};
 
 use crate::romfs;
 use crate::tfs::{self, Listing};

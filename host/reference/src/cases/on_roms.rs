@@ -93,38 +93,39 @@ impl CaseMaker {
     fn other(&mut self, made: &Rom, image: &[u8]) {
         let kind = OTHERS[self.turn % OTHERS.len()];
         self.turn += 1;
-        let random = &mut self.random;
-        let content = matches!(kind, Kind::RomLength | Kind::RomContent);
-        let fits = |entry: &&Placed| match kind {
-            Kind::RomFind => entry.kind == romfs::Kind::Directory,
-            _ => !content || entry.kind.has_content(),
-        };
-        let mut offsets: Vec<u32> = made
-            .entries
-            .iter()
-            .filter(fits)
-            .map(|entry| entry.at)
-            .collect();
-        if kind == Kind::RomFind {
-            offsets.push(0);
-        }
-        let first = match random.choose(&offsets) {
-            Some(at) if random.below(5) > 0 => at,
-            _ => wrong_offset(random, made),
-        };
-        let name = match kind {
-            Kind::RomFind => name(random, made, image, first),
-            _ => Vec::new(),
-        };
-        self.cases.push(Case::new(
-            kind,
-            Arguments {
-                first,
-                name,
-                ..Arguments::default()
-            },
-            image,
-        ));
+        let arguments = romfs_arguments(&mut self.random, made, image, kind);
+        self.cases.push(Case::new(kind, arguments, image));
+    }
+}
+
+/// Draws arguments for a request on an image, mostly good ones.
+pub fn romfs_arguments(random: &mut Random, made: &Rom, image: &[u8], kind: Kind) -> Arguments {
+    let content = matches!(kind, Kind::RomLength | Kind::RomContent);
+    let fits = |entry: &&Placed| match kind {
+        Kind::RomFind => entry.kind == romfs::Kind::Directory,
+        _ => !content || entry.kind.has_content(),
+    };
+    let mut offsets: Vec<u32> = made
+        .entries
+        .iter()
+        .filter(fits)
+        .map(|entry| entry.at)
+        .collect();
+    if kind == Kind::RomFind {
+        offsets.push(0);
+    }
+    let first = match random.choose(&offsets) {
+        Some(at) if random.below(5) > 0 => at,
+        _ => wrong_offset(random, made),
+    };
+    let name = match kind {
+        Kind::RomFind => name(random, made, image, first),
+        _ => Vec::new(),
+    };
+    Arguments {
+        first,
+        name,
+        ..Arguments::default()
     }
 }
 

@@ -186,29 +186,33 @@ impl CaseMaker {
     fn other(&mut self, made: &Volume, image: &[u8]) {
         let kind = OTHERS[self.turn % OTHERS.len()];
         self.turn += 1;
-        let random = &mut self.random;
-        let arguments = match kind {
-            Kind::TfsCreate => Arguments {
-                first: size(random, made),
-                name: name(random, made, 6),
-                ..Arguments::default()
-            },
-            Kind::TfsOpen | Kind::TfsRemove => Arguments {
-                name: name(random, made, 2),
-                ..Arguments::default()
-            },
-            Kind::TfsFormat => Arguments {
-                name: name(random, made, 4),
-                ..Arguments::default()
-            },
-            Kind::TfsRead | Kind::TfsWrite => transfer(random, made),
-            Kind::TfsList => Arguments {
-                first: slot(random, made),
-                ..Arguments::default()
-            },
-            _ => Arguments::default(),
-        };
+        let arguments = tfs_arguments(&mut self.random, made, kind);
         self.cases.push(Case::new(kind, arguments, image));
+    }
+}
+
+/// Draws arguments for a request on a volume, mostly good ones.
+pub fn tfs_arguments(random: &mut Random, made: &Volume, kind: Kind) -> Arguments {
+    match kind {
+        Kind::TfsCreate => Arguments {
+            first: size(random, made),
+            name: name(random, made, 6),
+            ..Arguments::default()
+        },
+        Kind::TfsOpen | Kind::TfsRemove => Arguments {
+            name: name(random, made, 2),
+            ..Arguments::default()
+        },
+        Kind::TfsFormat => Arguments {
+            name: name(random, made, 4),
+            ..Arguments::default()
+        },
+        Kind::TfsRead | Kind::TfsWrite => transfer(random, made),
+        Kind::TfsList => Arguments {
+            first: slot(random, made),
+            ..Arguments::default()
+        },
+        _ => Arguments::default(),
     }
 }
 

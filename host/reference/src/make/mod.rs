@@ -1,11 +1,13 @@
 //! Makers of images, sound and damaged, that give the same bytes for the same seed.
 
+mod large_rom;
 mod random;
 mod rom;
 mod rom_faults;
 mod volume;
 mod volume_faults;
 
+pub use large_rom::{flat_rom, tree_rom};
 pub use random::Random;
 pub use rom::{rom, Placed, Rom, RomPlan};
 pub use rom_faults::{damage_rom, damage_rom_twice, scramble_rom};

@@ -1,0 +1,62 @@
+#!/bin/sh
+# Measures times, code size and stack use, and prints docs/BENCHMARKS.md:
+#
+#     host/bench/report.sh >docs/BENCHMARKS.md
+set -eu
+cd "$(dirname "$0")"
+libraries=../../target/staticlib
+work=$(mktemp -d)
+trap 'rm -rf "$work"' EXIT
+cksum "$libraries"/*.a >"$work/before"
+
+cargo build --release --offline --quiet
+gcc -std=gnu99 -Wall -Wextra -O2 -I../../include stack.c -L"$libraries" -ltfs_c -lromfs_c -lpthread -Wl,-z,now \
+    -o "$work/stack"
+
+cat <<'TEXT'
+# Benchmarks
+
+Printed by `host/bench/report.sh`, which needs the static libraries (`rt staticlib tfs_c`, `rt staticlib romfs_c`). Nothing in
+the tests depends on a time.
+
+- *proved*: the request through its C interface, from the static library.
+- *reference*: the same request of `host/reference`, in Rust with `--release`.
+- *copy*: a plain `memcpy` of the same bytes.
+
+All are run in turn in one process, in batches of about 0.1 ms, and the best batch of 2,000 rounds counts (of fewer rounds where
+one operation lasts long). Every request but format checks the whole volume first, so each time has a check in it.
+
+A volume of 2 MiB is full when its 25 slots are used: 25 files of 65,024 bytes have 3,200 of its 4,093 blocks. There, create and
+remove are timed as remove and create.
+TEXT
+
+echo
+echo "- CPU: $(sed -n 's/^model name[^:]*: //p' /proc/cpuinfo | head -1), $(nproc) cores, $(uname -sm)"
+echo "- Compilers: $(readelf -p .comment "$libraries/libtfs_c.a" | sed -n 's/.*\(rattle logic=[0-9a-f]\{16\}\).*/\1/p')," \
+    "$(rustc --version), $(gcc --version | head -1)"
+echo
+echo "## Time"
+../target/release/bench "$@"
+echo
+echo "## Code size"
+echo
+echo "\`size\` of the static libraries; they need \`memcpy\` and \`memset\` and nothing else."
+echo
+echo "| library | code and constants | data | zeroed data |"
+echo "|---|---:|---:|---:|"
+for name in tfs_c romfs_c; do
+    size -t "$libraries/lib$name.a" | awk -v name="lib$name.a" 'END { print "| " name " | " $1 " | " $2 " | " $3 " |" }'
+done
+cat <<'TEXT'
+
+## Stack
+
+Each request runs on a thread whose stack is painted before; what a thread that does nothing uses is taken off. The volume has
+2 MiB and 24 files of 65,024 bytes, the romfs image lists down to depth 8.
+
+TEXT
+"$work/stack"
+if ! cksum "$libraries"/*.a | cmp -s - "$work/before"; then
+    echo "report: the libraries changed while they were measured; the report is void" >&2
+    exit 1
+fi

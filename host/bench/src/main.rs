@@ -1,0 +1,37 @@
+//! Prints how long requests take, as tables in Markdown.
+//!
+//! ```text
+//! bench [--rounds R]
+//! ```
+//!
+//! Each time is the best of R rounds (2000 unless given, fewer where one lasts long), in which the proved request, the
+//! reference and a plain copy of the same bytes take turns. Nothing passes or fails by time.
+
+#![forbid(unsafe_code)]
+
+mod on_romfs;
+mod on_tfs;
+mod race;
+mod table;
+mod volumes;
+
+use std::process::ExitCode;
+
+fn main() -> ExitCode {
+    let words: Vec<String> = std::env::args().skip(1).collect();
+    let rounds = match &words[..] {
+        [] => Some(2000),
+        [option, count] if option == "--rounds" => count.parse().ok(),
+        _ => None,
+    };
+    let Some(rounds) = rounds.filter(|rounds| *rounds > 0) else {
+        eprintln!("usage: bench [--rounds R]");
+        return ExitCode::from(2);
+    };
+    on_tfs::requests(rounds);
+    on_tfs::transfers(rounds);
+    on_tfs::growth(rounds);
+    on_romfs::requests(rounds);
+    on_romfs::growth(rounds);
+    ExitCode::SUCCESS
+}

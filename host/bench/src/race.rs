@@ -1,0 +1,63 @@
+use std::hint::black_box;
+use std::time::Instant;
+
+/// A batch lasts about so long, unless one operation lasts longer: short enough to fall between
+/// two turns of other programs.
+const BATCH_NS: f64 = 100_000.0;
+
+/// After these seconds a race ends before its last round, but not before the fifth.
+const LONG: u64 = 4;
+
+/// Operations that are timed in turn, so that all of them see the same machine.
+pub struct Race<'a> {
+    lanes: Vec<Box<dyn FnMut() + 'a>>,
+    rounds: usize,
+}
+
+impl<'a> Race<'a> {
+    /// Starts a race of so many rounds.
+    pub fn new(rounds: usize) -> Self {
+        let lanes = Vec::new();
+        Self { lanes, rounds }
+    }
+
+    /// Adds an operation.
+    pub fn lane<T>(mut self, mut operation: impl FnMut() -> T + 'a) -> Self {
+        self.lanes.push(Box::new(move || {
+            black_box(operation());
+        }));
+        self
+    }
+
+    /// Gives the nanoseconds of each operation in its best round.
+    pub fn run(mut self) -> Vec<f64> {
+        let batches: Vec<usize> = self.lanes.iter_mut().map(batch).collect();
+        let mut best = vec![f64::INFINITY; self.lanes.len()];
+        let start = Instant::now();
+        for round in 0..self.rounds {
+            if round >= 5 && start.elapsed().as_secs() >= LONG {
+                break;
+            }
+            for (index, lane) in self.lanes.iter_mut().enumerate() {
+                best[index] = best[index].min(timed(lane, batches[index]));
+            }
+        }
+        best
+    }
+}
+
+/// How often an operation is run in a round.
+fn batch(lane: &mut Box<dyn FnMut() + '_>) -> usize {
+    timed(lane, 1);
+    let once = timed(lane, 3).max(1.0);
+    (BATCH_NS / once).clamp(1.0, 1_000_000.0) as usize
+}
+
+/// The nanoseconds of one operation out of so many.
+fn timed(lane: &mut Box<dyn FnMut() + '_>, times: usize) -> f64 {
+    let start = Instant::now();
+    for _ in 0..times {
+        lane();
+    }
+    start.elapsed().as_nanos() as f64 / times as f64
+}

@@ -1,0 +1,83 @@
+//! The volumes that are timed.
+
+use reference::make::{volume, Random, Shape};
+use reference::tfs::{self, BLOCK_SIZE, LARGEST_FILE, MOST_BLOCKS};
+
+/// A volume and the handle of a file of the largest size in it, if there is one.
+#[derive(Clone)]
+pub struct Made {
+    /// What it is called in the tables.
+    pub title: &'static str,
+    /// The image.
+    pub image: Vec<u8>,
+    /// The handle of the file "DATA", or 0.
+    pub data: u32,
+}
+
+/// An empty volume of so many blocks.
+pub fn empty(blocks: usize) -> Vec<u8> {
+    let mut image = vec![0; blocks * BLOCK_SIZE];
+    tfs::format(&mut image, b"BENCH").expect("format");
+    image
+}
+
+/// A volume with files of these sizes, named by their number.
+pub fn with_files(blocks: usize, sizes: &[u32]) -> Vec<u8> {
+    let mut image = empty(blocks);
+    for (number, size) in sizes.iter().enumerate() {
+        let name = format!("F{number}");
+        tfs::create(&mut image, name.as_bytes(), *size).expect("create");
+    }
+    image
+}
+
+/// The volumes of 2 MiB without the file "DATA".
+pub fn plain() -> [(&'static str, Vec<u8>); 3] {
+    let typical = [1_000, 200, 4_096, 12_000, 512, 30_000, 100, 65_024];
+    [
+        ("empty", empty(MOST_BLOCKS)),
+        ("8 files", with_files(MOST_BLOCKS, &typical)),
+        (
+            "25 largest files",
+            with_files(MOST_BLOCKS, &[LARGEST_FILE; 25]),
+        ),
+    ]
+}
+
+/// The volumes of 2 MiB with a file of the largest size.
+pub fn with_data() -> Vec<Made> {
+    let typical = [1_000, 200, 4_096, 12_000, 512, 30_000, 100];
+    let shapes: [(&'static str, &[u32]); 3] = [
+        ("only this file", &[]),
+        ("8 files", &typical),
+        ("25 largest files", &[LARGEST_FILE; 24]),
+    ];
+    let mut made: Vec<Made> = shapes
+        .iter()
+        .map(|(title, sizes)| {
+            let mut image = with_files(MOST_BLOCKS, sizes);
+            let data = tfs::create(&mut image, b"DATA", LARGEST_FILE).expect("create");
+            Made { title, image, data }
+        })
+        .collect();
+    made.push(scattered());
+    made
+}
+
+/// A volume whose largest file has its blocks anywhere.
+fn scattered() -> Made {
+    let mut random = Random::new(1);
+    loop {
+        let made = volume(&mut random, Shape::Largest, MOST_BLOCKS);
+        let file = made.files.iter().find(|file| file.size == LARGEST_FILE);
+        let file = file.expect("a file of the largest size");
+        let neighbours = file.blocks.windows(2).filter(|two| two[0] + 1 == two[1]);
+        if neighbours.count() < 8 {
+            return Made {
+                title: "scattered blocks",
+                data: file.inode,
+                image: made.image,
+            };
+        }
+    }
+}

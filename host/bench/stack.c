@@ -1,0 +1,154 @@
+/* How much stack each request uses: it runs on a thread whose stack is painted, and the paint that is gone is measured.
+ * The same for a thread that does nothing is taken off. Prints a table in Markdown; exit status 1 if a request uses more
+ * than the headers say. */
+#define _GNU_SOURCE
+#include <pthread.h>
+#include <stdio.h>
+#include <stdlib.h>
+#include <string.h>
+
+#include "romfs.h"
+#include "tfs.h"
+
+#define STACK (256 * 1024)
+#define PAINT 0xA5
+#define MOST (16 * 1024)
+#define VOLUME (TFS_MAX_BLOCKS * TFS_BLOCK_SIZE)
+#define DEEPEST 8
+
+static uint8_t image[VOLUME], buffer[TFS_MAX_FILE], rom[32 * (DEEPEST + 2)];
+static uint8_t file[] = "A", link_name[] = "link", other[] = "NEW";
+static volatile uint32_t answer;
+
+/* ---- the volume and the image */
+
+static void put(uint8_t *at, uint32_t word)
+{
+    for (int i = 0; i < 4; i++)
+        at[i] = (uint8_t)(word >> (24 - 8 * i));
+}
+
+/* Sets the checksum in the fourth word right. */
+static void seal(uint8_t *part, size_t length)
+{
+    uint32_t sum = 0;
+
+    put(part + 12, 0);
+    for (size_t i = 0; i < length; i += 4)
+        sum += (uint32_t)part[i] << 24 | (uint32_t)part[i + 1] << 16 | (uint32_t)part[i + 2] << 8 | part[i + 3];
+    put(part + 12, 0u - sum);
+}
+
+static void header(uint32_t at, uint32_t first_word, uint32_t info, const uint8_t *name)
+{
+    put(rom + at, first_word);
+    put(rom + at + 4, info);
+    strcpy((char *)rom + at + 16, (const char *)name);
+    seal(rom + at, 32);
+}
+
+/* One directory in another; the deepest list has a file and a hard link to it. */
+static void make_rom(void)
+{
+    uint32_t at = 32;
+
+    memcpy(rom, "-rom1fs-", 8);
+    put(rom + 8, sizeof rom);
+    for (; at < 32 * DEEPEST; at += 32)
+        header(at, ROMFS_DIRECTORY, at + 32, file);
+    header(at, (at + 32) | ROMFS_REGULAR_FILE, 0, file);
+    header(at + 32, ROMFS_HARD_LINK, at, link_name);
+    seal(rom, sizeof rom);
+}
+
+/* As many files of the largest size as there are slots, but for one. */
+static void make_volume(void)
+{
+    uint8_t name = 'A';
+
+    tfs_format(image, VOLUME, file, 1);
+    for (unsigned i = 0; i + 1 < TFS_SLOTS; i++, name++)
+        tfs_create(image, VOLUME, &name, 1, TFS_MAX_FILE);
+}
+
+/* ---- the requests */
+
+#define REQUEST(name, call)                                                                                            \
+    static void name(void)                                                                                             \
+    {                                                                                                                  \
+        answer = (call).refusal;                                                                                       \
+    }
+
+static void nothing(void)
+{
+    answer = 0;
+}
+
+REQUEST(run_format, tfs_format(buffer, sizeof buffer, other, 3))
+REQUEST(run_check, tfs_check(image, VOLUME))
+REQUEST(run_open, tfs_open(image, VOLUME, file, 1))
+REQUEST(run_create, tfs_create(image, VOLUME, other, 3, TFS_MAX_FILE))
+REQUEST(run_remove, tfs_remove(image, VOLUME, other, 3))
+REQUEST(run_read, tfs_read(image, VOLUME, 3, 0, buffer, sizeof buffer))
+REQUEST(run_write, tfs_write(image, VOLUME, 3, 0, buffer, sizeof buffer))
+REQUEST(run_list, tfs_list(image, VOLUME, 24))
+REQUEST(run_free_bytes, tfs_free_bytes(image, VOLUME))
+REQUEST(run_rom_check, romfs_check(rom, sizeof rom))
+REQUEST(run_rom_find, romfs_find(rom, sizeof rom, 32 * (DEEPEST - 1), link_name, 4))
+REQUEST(run_rom_entry, romfs_entry(rom, sizeof rom, 32 * (DEEPEST + 1)))
+REQUEST(run_rom_content, romfs_content(rom, sizeof rom, 32 * DEEPEST))
+
+static const struct {
+    const char *name;
+    void (*run)(void);
+} requests[] = {
+    {"TFS format", run_format},       {"TFS check", run_check},       {"TFS open", run_open},
+    {"TFS create", run_create},       {"TFS remove", run_remove},     {"TFS read", run_read},
+    {"TFS write", run_write},         {"TFS list", run_list},         {"TFS free bytes", run_free_bytes},
+    {"romfs check", run_rom_check},   {"romfs find", run_rom_find},   {"romfs entry", run_rom_entry},
+    {"romfs content", run_rom_content},
+};
+
+/* ---- the measurement */
+
+static void *on_thread(void *request)
+{
+    (*(void (**)(void))request)();
+    return NULL;
+}
+
+/* The bytes of a painted stack that a request has changed, from the top down. */
+static size_t depth(void (*request)(void))
+{
+    static uint8_t stack[STACK] __attribute__((aligned(4096)));
+    pthread_attr_t attributes;
+    pthread_t thread;
+    size_t clean = 0;
+
+    memset(stack, PAINT, STACK);
+    if (pthread_attr_init(&attributes) != 0 || pthread_attr_setstack(&attributes, stack, STACK) != 0 ||
+        pthread_create(&thread, &attributes, on_thread, &request) != 0 || pthread_join(thread, NULL) != 0) {
+        fprintf(stderr, "stack: no thread\n");
+        exit(2);
+    }
+    while (clean < STACK && stack[clean] == PAINT)
+        clean++;
+    return STACK - clean;
+}
+
+int main(void)
+{
+    size_t idle = depth(nothing);
+    int failed = 0;
+
+    make_volume();
+    make_rom();
+    printf("| request | bytes of stack |\n|---|---:|\n");
+    for (size_t i = 0; i < sizeof requests / sizeof requests[0]; i++) {
+        size_t used = depth(requests[i].run) - idle;
+
+        printf("| %s | %lu |\n", requests[i].name, (unsigned long)used);
+        failed |= used > MOST || answer != 0;
+    }
+    return failed;
+}

@@ -1,0 +1,33 @@
+/// An answer as the C interface gives it: all its words, and the name of a listed file.
+#[derive(Clone, Copy, Debug, Default, PartialEq, Eq)]
+pub struct Answer {
+    /// The number of the refusal, the place, and what is granted.
+    pub words: [u32; 8],
+    /// The name padded with zeros.
+    pub name: [u8; 16],
+}
+
+impl Answer {
+    /// Gives an answer of some words; those that are missing are 0.
+    pub fn of(words: &[u32]) -> Self {
+        let mut answer = Self::default();
+        answer.words[..words.len()].copy_from_slice(words);
+        answer
+    }
+
+    /// Adds a name of at most 16 bytes.
+    pub fn named(mut self, name: &[u8]) -> Self {
+        self.name[..name.len()].copy_from_slice(name);
+        self
+    }
+
+    /// Gives the number of the refusal, or 0.
+    pub fn refusal(&self) -> u32 {
+        self.words[0]
+    }
+
+    /// Gives the first word behind refusal and place.
+    pub fn value(&self) -> u32 {
+        self.words[2]
+    }
+}

@@ -1,0 +1,90 @@
+//! What is drawn for TFS: volumes, and arguments besides the usual ones.
+
+use reference::cases::{Arguments, Kind};
+use reference::make::{any_volume, volume, MadeFile, Random, Shape, Volume};
+use reference::tfs::{BLOCK_SIZE, LARGEST_FILE, MOST_BLOCKS};
+
+/// A consistent volume, mostly a small one, or noise.
+pub(crate) fn any_image(random: &mut Random) -> Volume {
+    match random.below(200) {
+        0 => {
+            let blocks = random.pick(&[MOST_BLOCKS, MOST_BLOCKS, MOST_BLOCKS - 1, 2048, 1000]);
+            let shapes = [
+                Shape::Scattered,
+                Shape::Full,
+                Shape::Lived,
+                Shape::Largest,
+                Shape::Empty,
+            ];
+            let shape = random.pick(&shapes);
+            volume(random, shape, blocks)
+        }
+        1..=9 => {
+            let blocks = random.between(129, 140);
+            let shape = random.pick(&[Shape::Largest, Shape::Empty, Shape::Full]);
+            volume(random, shape, blocks)
+        }
+        10..=29 => {
+            let blocks = random.pick(&[31, 32, 33, 63, 64, 65, 96, 97, 127, 128]);
+            let shape = random.pick(&[Shape::Scattered, Shape::Full, Shape::Lived]);
+            volume(random, shape, blocks)
+        }
+        30..=44 => {
+            let blocks = random.between(28, 40);
+            volume(random, Shape::Crowded, blocks)
+        }
+        45..=54 => noise(random),
+        _ => any_volume(random, 140),
+    }
+}
+
+fn noise(random: &mut Random) -> Volume {
+    let any = random.below(5000);
+    let length = random.pick(&[0, 1, 512, 1535, 1536, 1537, any, any, any, any]);
+    Volume {
+        image: random.bytes(length),
+        blocks: (length / BLOCK_SIZE).max(3),
+        files: Vec::new(),
+    }
+}
+
+/// Now and then takes names and handles of gone files, and numbers at the far ends.
+pub(crate) fn twist(random: &mut Random, past: &[MadeFile], kind: Kind, arguments: &mut Arguments) {
+    let gone = (!past.is_empty()).then(|| &past[random.below(past.len())]);
+    match kind {
+        Kind::TfsRead | Kind::TfsWrite => twist_transfer(random, gone, arguments),
+        Kind::TfsOpen | Kind::TfsRemove | Kind::TfsCreate => twist_name(random, gone, arguments),
+        _ => {}
+    }
+}
+
+fn twist_transfer(random: &mut Random, gone: Option<&MadeFile>, arguments: &mut Arguments) {
+    const LARGEST: usize = LARGEST_FILE as usize;
+    if let (Some(file), true) = (gone, random.one_in(6)) {
+        arguments.first = file.inode;
+        let size = file.size;
+        arguments.second = random.pick(&[0, size, size.wrapping_sub(1), size + 1]);
+    }
+    if random.one_in(24) {
+        let around = random.pick(&[LARGEST_FILE - 1, LARGEST_FILE, LARGEST_FILE + 1]);
+        let far = [around, around, around, 1 << 31, u32::MAX - 511, u32::MAX];
+        arguments.second = random.pick(&far);
+    }
+    if random.one_in(24) {
+        let length = random.pick(&[LARGEST, LARGEST + 1, 70_000]);
+        arguments.buffer = random.bytes(length);
+    }
+}
+
+fn twist_name(random: &mut Random, gone: Option<&MadeFile>, arguments: &mut Arguments) {
+    if let (Some(file), true) = (gone, random.one_in(6)) {
+        arguments.name = file.name.clone();
+    }
+    if random.one_in(3) {
+        arguments.first = random.below(1500) as u32;
+    }
+    if random.one_in(24) {
+        let around = random.pick(&[LARGEST_FILE - 512, LARGEST_FILE - 511, LARGEST_FILE + 1]);
+        arguments.first = random.pick(&[around, around, LARGEST_FILE, u32::MAX]);
+    }
+}

@@ -1,0 +1,163 @@
+//! Volumes of 4,096 blocks and images longer than that, on both programs.
+
+use compare::sides::{proved, reference};
+use compare::{Answer, Pair};
+use reference::cases::{Arguments, Kind};
+use reference::make::{tree_rom, Random};
+
+const MOST: usize = 2_097_152;
+const LENGTHS: [usize; 6] = [MOST, MOST + 1, MOST + 511, MOST + 512, 2_097_664, 3_000_000];
+
+struct Large {
+    random: Random,
+    pair: Pair,
+    past: Vec<u8>,
+}
+
+impl Large {
+    /// A volume in an image of noise.
+    fn formatted(length: usize) -> Self {
+        let mut random = Random::new(length as u64);
+        let image = random.bytes(length);
+        let pair = Pair::new(&mut random, [proved, reference], &image);
+        let past = image[MOST.min(length)..].to_vec();
+        let mut large = Self { random, pair, past };
+        assert_eq!(large.ask(Kind::TfsFormat, 0, b"LARGE"), Answer::default());
+        large
+    }
+
+    /// The same with another image of the same length.
+    fn holding(mut self, image: &[u8]) -> Self {
+        self.pair = Pair::new(&mut self.random, [proved, reference], image);
+        self
+    }
+
+    fn ask(&mut self, kind: Kind, first: u32, name: &[u8]) -> Answer {
+        let name = name.to_vec();
+        let arguments = Arguments {
+            first,
+            name,
+            ..Arguments::default()
+        };
+        self.transfer(kind, &arguments)
+    }
+
+    /// Makes a request on both programs; the bytes past block 4095 stay.
+    fn transfer(&mut self, kind: Kind, arguments: &Arguments) -> Answer {
+        let answer = self.pair.request(&mut self.random, kind, arguments);
+        let answer = answer.unwrap_or_else(|difference| panic!("{difference}"));
+        let image = self.pair.image();
+        assert!(image[MOST.min(image.len())..] == self.past[..]);
+        answer
+    }
+
+    fn free(&mut self) -> u32 {
+        self.ask(Kind::TfsFree, 0, b"").value()
+    }
+}
+
+#[test]
+fn longer_images_have_4096_blocks() {
+    for length in LENGTHS {
+        let mut large = Large::formatted(length);
+        assert_eq!(large.free(), 2_095_616, "{length}");
+        let map = &large.pair.image()[512..1024];
+        assert!(map[..4] == [0, 0, 0, 7] && map[4..].iter().all(|byte| *byte == 0));
+    }
+}
+
+#[test]
+fn a_byte_less_has_a_block_less() {
+    let mut large = Large::formatted(MOST - 1);
+    assert_eq!(large.free(), 2_095_616 - 512);
+}
+
+/// Makes a file "LAST" of 512 bytes with inode 4094 and content block 4095.
+///
+/// No create takes these: 25 files have 3,200 blocks at most, and the lowest free ones.
+fn with_last_blocks(length: usize) -> Large {
+    let formatted = Large::formatted(length);
+    let mut image = formatted.pair.image().to_vec();
+    image[512 + 508] = 0xC0;
+    image[1024..1032].copy_from_slice(b"\0\0\x0F\xFELAST");
+    let inode = 512 * 4094;
+    image[inode..inode + 512].fill(0);
+    image[inode..inode + 8].copy_from_slice(&[0, 0, 2, 0, 0, 0, 0x0F, 0xFF]);
+    formatted.holding(&image)
+}
+
+#[test]
+fn block_4095_is_used() {
+    for length in LENGTHS {
+        let mut large = with_last_blocks(length);
+        assert_eq!(large.ask(Kind::TfsCheck, 0, b""), Answer::default());
+        assert_eq!(large.free(), 2_095_616 - 1024);
+        assert_eq!(large.ask(Kind::TfsOpen, 0, b"LAST").value(), 4094);
+        let mut arguments = Arguments {
+            first: 4094,
+            second: 2,
+            buffer: vec![0x55; 600],
+            ..Arguments::default()
+        };
+        assert_eq!(large.transfer(Kind::TfsWrite, &arguments).value(), 510);
+        assert!(large.pair.image()[MOST - 510..MOST] == [0x55; 510]);
+        arguments.buffer = vec![0xAA; 600];
+        assert_eq!(large.transfer(Kind::TfsRead, &arguments).value(), 510);
+        assert_eq!(large.ask(Kind::TfsRemove, 0, b"LAST"), Answer::default());
+        assert_eq!(large.pair.image()[512 + 508], 0);
+        assert_eq!(large.free(), 2_095_616);
+    }
+}
+
+#[test]
+fn faults_at_block_4095_and_past_it() {
+    let content = 512 * 4094 + 4;
+    // The byte that is changed, what it becomes, and the refusal with its place.
+    let faults = [
+        (512 + 508, 0x40, 7, 4095),
+        (512 + 508, 0x80, 7, 4094),
+        (content + 3, 0xFE, 6, 4094),
+        (content + 2, 0x10, 5, 0),
+        (1024 + 2, 0x10, 4, 0),
+    ];
+    for length in LENGTHS {
+        for (at, byte, number, place) in faults {
+            let large = with_last_blocks(length);
+            let mut image = large.pair.image().to_vec();
+            image[at] = byte;
+            let mut large = large.holding(&image);
+            let refused = large.ask(Kind::TfsCheck, 0, b"");
+            assert_eq!(refused, Answer::of(&[number, place]), "{length} {at}");
+        }
+    }
+}
+
+#[test]
+fn the_largest_files_fill_3203_blocks() {
+    let mut large = Large::formatted(512 * 3203);
+    for number in 0..25 {
+        let made = large.ask(Kind::TfsCreate, 65_024, &[b'A' + number]);
+        assert_eq!(made, Answer::of(&[0, 0, 3 + 128 * u32::from(number)]));
+    }
+    assert_eq!(large.free(), 0);
+    assert_eq!(large.ask(Kind::TfsCreate, 0, b"more").refusal(), 11);
+    assert_eq!(large.ask(Kind::TfsRemove, 0, b"C"), Answer::default());
+    assert_eq!(large.free(), 65_536);
+}
+
+/// A length that 32 bits cannot hold; its bytes are zeros that take no memory until they are used.
+#[test]
+fn images_longer_than_4_gib() {
+    let mut image = vec![0; (1 << 32) + 1024];
+    assert_eq!(proved::tfs::format(&mut image, b"LONG"), Ok(()));
+    assert_eq!(proved::tfs::free_bytes(&image), Ok(2_095_616));
+    assert_eq!(reference::tfs::free_bytes(&image), Ok(2_095_616));
+    assert_eq!(proved::tfs::create(&mut image, b"A", 1_000), Ok(3));
+    assert_eq!(reference::tfs::open(&image, b"A"), Ok(3));
+
+    let rom = tree_rom(3, 2, 5);
+    image[..rom.image.len()].copy_from_slice(&rom.image);
+    assert_eq!(proved::romfs::check(&image), Ok(()));
+    let found = reference::romfs::find(&image, 0, b"d02");
+    assert_eq!(proved::romfs::find(&image, 0, b"d02").ok(), found.ok());
+}

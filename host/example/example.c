@@ -1,0 +1,125 @@
+/* The main job of both libraries: a TFS volume is made, used and damaged, and a romfs image is read. */
+#include <stdio.h>
+#include <string.h>
+
+#include "romfs.h"
+#include "tfs.h"
+
+#define TEXT(s) (const uint8_t *)(s), strlen(s)
+
+/* The refusals that this program meets, in words. */
+static void say_refusal(uint32_t refusal, uint32_t place)
+{
+    unsigned long p = place;
+
+    printf("refused %lu: ", (unsigned long)refusal);
+    switch (refusal) {
+    case TFS_BLOCK_TWICE: printf("block %lu is claimed twice\n", p); break;
+    case TFS_MAP_WRONG: printf("the map is wrong at block %lu\n", p); break;
+    case TFS_NO_SUCH_NAME: printf("no file of that name\n"); break;
+    case ROMFS_BAD_VOLUME_SUM: printf("wrong checksum of the volume\n"); break;
+    default: printf("place %lu\n", p);
+    }
+}
+
+/* An answer with a value. */
+static void say(const char *request, uint32_t refusal, uint32_t place, uint32_t value)
+{
+    printf("%s: ", request);
+    if (refusal == 0)
+        printf("%lu\n", (unsigned long)value);
+    else
+        say_refusal(refusal, place);
+}
+
+/* An answer without one. */
+static void say_done(const char *request, uint32_t refusal, uint32_t place)
+{
+    printf("%s: ", request);
+    if (refusal == 0)
+        printf("done\n");
+    else
+        say_refusal(refusal, place);
+}
+
+static void value(const char *request, tfs_result r)
+{
+    say(request, r.refusal, r.place, r.value);
+}
+
+static void done(const char *request, tfs_result r)
+{
+    say_done(request, r.refusal, r.place);
+}
+
+/* A volume of 64 KiB with one file, which is written and read back. */
+static void use_volume(uint8_t *image, size_t length)
+{
+    uint8_t buffer[32];
+    tfs_result file, count;
+    tfs_slot slot;
+
+    done("format", tfs_format(image, length, TEXT("PUMP")));
+    file = tfs_create(image, length, TEXT("TIMING"), 1000);
+    value("create TIMING, handle", file);
+    value("write at 990, count", tfs_write(image, length, file.value, 990, TEXT("3 minutes on, 2 off")));
+    memset(buffer, '.', sizeof buffer);
+    count = tfs_read(image, length, file.value, 990, buffer, sizeof buffer);
+    value("read at 990, count", count);
+    printf("buffer: \"%.*s\"\n", (int)sizeof buffer, (const char *)buffer);
+    slot = tfs_list(image, length, 0);
+    printf("slot 0: %s, %lu bytes\n", (const char *)slot.name, (unsigned long)slot.size);
+    value("free bytes", tfs_free_bytes(image, length));
+    value("open PRESSURE", tfs_open(image, length, TEXT("PRESSURE")));
+}
+
+/* Every request sees a damaged byte, and none changes anything then. */
+static void damage_volume(uint8_t *image, size_t length)
+{
+    uint8_t *second = image + 3 * TFS_BLOCK_SIZE + 11; /* the second content block of TIMING, 5 */
+    uint8_t *map = image + TFS_BLOCK_SIZE + 3;         /* blocks 0 to 7 in the map */
+
+    *second = 4;
+    done("check with a wrong block number", tfs_check(image, length));
+    done("remove TIMING", tfs_remove(image, length, TEXT("TIMING")));
+    *second = 5;
+    *map ^= 1 << 6;
+    done("check with a wrong map bit", tfs_check(image, length));
+    *map ^= 1 << 6;
+    done("check after repair", tfs_check(image, length));
+    done("remove TIMING", tfs_remove(image, length, TEXT("TIMING")));
+}
+
+/* The volume "V" with an empty regular file "a". */
+static void read_rom(void)
+{
+    static uint8_t rom[64] = {
+        '-', 'r', 'o', 'm', '1', 'f', 's', '-', 0, 0, 0, 0x40, 0x4B, 0x27, 0x1D, 0x26,
+        'V', 0,   0,   0,   0,   0,   0,   0,   0, 0, 0, 0,    0,    0,    0,    0,
+        0,   0,   0,   2,   0,   0,   0,   0,   0, 0, 0, 0,    0x9E, 0xFF, 0xFF, 0xFE,
+        'a', 0,   0,   0,   0,   0,   0,   0,   0, 0, 0, 0,    0,    0,    0,    0,
+    };
+    romfs_result checked, found;
+    romfs_part part;
+
+    checked = romfs_check(rom, sizeof rom);
+    say_done("romfs check", checked.refusal, checked.place);
+    found = romfs_find(rom, sizeof rom, ROMFS_ROOT, TEXT("a"));
+    say("find a, header", found.refusal, found.place, found.value);
+    part = romfs_content(rom, sizeof rom, found.value);
+    say("content of a, offset", part.refusal, part.place, part.offset);
+    say("content of a, length", part.refusal, part.place, part.length);
+    rom[48] = 'b';
+    checked = romfs_check(rom, sizeof rom);
+    say_done("romfs check with a wrong name", checked.refusal, checked.place);
+}
+
+int main(void)
+{
+    static uint8_t image[65536];
+
+    use_volume(image, sizeof image);
+    damage_volume(image, sizeof image);
+    read_rom();
+    return 0;
+}

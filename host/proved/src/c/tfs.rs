@@ -1,0 +1,90 @@
+//! `include/tfs.h`.
+
+/// `tfs_result`.
+#[repr(C)]
+#[derive(Clone, Copy, Debug, PartialEq, Eq)]
+pub struct Answer {
+    /// The number of the refusal; 0 is granted.
+    pub refusal: u32,
+    /// The slot or block at fault.
+    pub place: u32,
+    /// A handle, a count or free bytes.
+    pub value: u32,
+}
+
+/// `tfs_slot`.
+#[repr(C)]
+#[derive(Clone, Copy, Debug, PartialEq, Eq)]
+pub struct Listed {
+    /// The number of the refusal; 0 is granted.
+    pub refusal: u32,
+    /// The slot or block at fault.
+    pub place: u32,
+    /// 1 for a file.
+    pub used: u32,
+    /// The file's handle.
+    pub inode: u32,
+    /// The file's size in bytes.
+    pub size: u32,
+    /// The length of the name.
+    pub name_length: u32,
+    /// The name, padded with zeros.
+    pub name: [u8; 16],
+}
+
+extern "C" {
+    fn tfs_format(image: *mut u8, image_length: usize, label: *const u8, label_length: usize) -> Answer;
+    fn tfs_check(image: *const u8, image_length: usize) -> Answer;
+    fn tfs_open(image: *const u8, image_length: usize, name: *const u8, name_length: usize) -> Answer;
+    fn tfs_create(image: *mut u8, image_length: usize, name: *const u8, name_length: usize, size: u32) -> Answer;
+    fn tfs_remove(image: *mut u8, image_length: usize, name: *const u8, name_length: usize) -> Answer;
+    fn tfs_read(image: *const u8, image_length: usize, handle: u32, offset: u32, buffer: *mut u8, buffer_length: usize) -> Answer;
+    fn tfs_write(image: *mut u8, image_length: usize, handle: u32, offset: u32, buffer: *const u8, buffer_length: usize) -> Answer;
+    fn tfs_list(image: *const u8, image_length: usize, slot: u32) -> Listed;
+    fn tfs_free_bytes(image: *const u8, image_length: usize) -> Answer;
+}
+
+/// Makes an empty volume.
+pub fn format(image: &mut [u8], label: &[u8]) -> Answer {
+    unsafe { tfs_format(image.as_mut_ptr(), image.len(), label.as_ptr(), label.len()) }
+}
+
+/// Checks the volume.
+pub fn check(image: &[u8]) -> Answer {
+    unsafe { tfs_check(image.as_ptr(), image.len()) }
+}
+
+/// The handle of a file.
+pub fn open(image: &[u8], name: &[u8]) -> Answer {
+    unsafe { tfs_open(image.as_ptr(), image.len(), name.as_ptr(), name.len()) }
+}
+
+/// Creates a file of zeros; its handle.
+pub fn create(image: &mut [u8], name: &[u8], size: u32) -> Answer {
+    unsafe { tfs_create(image.as_mut_ptr(), image.len(), name.as_ptr(), name.len(), size) }
+}
+
+/// Removes a file.
+pub fn remove(image: &mut [u8], name: &[u8]) -> Answer {
+    unsafe { tfs_remove(image.as_mut_ptr(), image.len(), name.as_ptr(), name.len()) }
+}
+
+/// Reads into the buffer; the count.
+pub fn read(image: &[u8], handle: u32, offset: u32, buffer: &mut [u8]) -> Answer {
+    unsafe { tfs_read(image.as_ptr(), image.len(), handle, offset, buffer.as_mut_ptr(), buffer.len()) }
+}
+
+/// Writes the buffer into the file; the count.
+pub fn write(image: &mut [u8], handle: u32, offset: u32, buffer: &[u8]) -> Answer {
+    unsafe { tfs_write(image.as_mut_ptr(), image.len(), handle, offset, buffer.as_ptr(), buffer.len()) }
+}
+
+/// What stands in a slot.
+pub fn list(image: &[u8], slot: u32) -> Listed {
+    unsafe { tfs_list(image.as_ptr(), image.len(), slot) }
+}
+
+/// The free bytes.
+pub fn free_bytes(image: &[u8]) -> Answer {
+    unsafe { tfs_free_bytes(image.as_ptr(), image.len()) }
+}

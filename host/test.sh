@@ -1,0 +1,58 @@
+#!/bin/sh
+# Builds the host programs on the proved libraries and tests them. From anywhere:
+#
+#     host/test.sh
+#
+# One line for each part; the output of a part is shown where it fails. The last line is "host tests: ok", or the number of
+# parts that failed, with exit status 1.
+set -u
+cd "$(dirname "$0")"
+libraries=../target/staticlib
+work=$(mktemp -d)
+trap 'rm -rf "$work"' EXIT
+failed=0
+
+# Runs a command as a part: its name, then the command.
+part() {
+    name=$1
+    shift
+    if "$@" >"$work/output" 2>&1; then
+        echo "$name: ok"
+    else
+        cat "$work/output"
+        echo "$name: FAILED"
+        failed=$((failed + 1))
+    fi
+}
+
+example() {
+    gcc -std=c99 -Wall -Wextra -pedantic -Werror -O2 -I../include example/example.c \
+        -L"$libraries" -ltfs_c -lromfs_c -o "$work/example" &&
+        "$work/example" >"$work/printed" &&
+        diff -u example/expected.txt "$work/printed"
+}
+
+# Fails where a request uses more stack than the headers say.
+stack() {
+    gcc -std=gnu99 -Wall -Wextra -Werror -O2 -I../include bench/stack.c -L"$libraries" -ltfs_c -lromfs_c -lpthread \
+        -Wl,-z,now -o "$work/stack" && "$work/stack"
+}
+
+for name in tfs_c romfs_c; do
+    if [ ! -f "$libraries/lib$name.a" ]; then
+        echo "host tests: target/staticlib/lib$name.a is missing; it is made by: rt staticlib $name"
+        failed=1
+    fi
+done
+[ $failed = 0 ] || exit 1
+
+part "build" cargo build --release --offline
+part "tests" cargo test --offline
+part "C example" example
+part "stack use" stack
+part "comparison" target/release/compare --seconds 5
+if [ $failed != 0 ]; then
+    echo "host tests: $failed failed"
+    exit 1
+fi
+echo "host tests: ok"
