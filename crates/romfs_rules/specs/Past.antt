@@ -20,7 +20,7 @@ use Rattle.romfs_rules.specs.Layout.{fullSize, nameLength, nameEnds, aft
 use Rattle.romfs_rules.specs.Rules.{Verdict, accepted, refused, short21, magic22, size23, sum24, name25, overBound, badName, badSum, badInfo, badSize, badHeader, badNext, badFirst, badNesting, tooDeep, fault}
 use Rattle.romfs_rules.specs.Reached.{along, IsReached, Sound, root}
 use Rattle.romfs_rules.specs.Check.{andThen, visitList, visitEntry, visitAll, walk, towards, seek, isReached, badLink, links, volume, check}
-use Rattle.romfs_rules.specs.Answers.{Answer, granted, denied, checked, firstOf, matchFrom, matchIn, isDirectory, found, find, entryAt, described, entry, measured, contentLength, partOf, content}
+use Rattle.romfs_rules.specs.Answers.{Answer, granted, denied, checked, firstOf, matchFrom, matchIn, isDirectory, found, find, entryAt, described, entry, measured, contentLength, partOf, content, contentStart}
 use Rattle.romfs_rules.specs.Facts.{and-yes-l, fault-sound, next-to, own-to, first-even, first-to}
 use Rattle.romfs_rules.specs.Visit.{entry-test}
 use Rattle.romfs_rules.specs.Walked.{Volume, volume-of, full-even, root-in, reached-room}
@@ -39,6 +39,8 @@ pub record SameAnswers (s t : List ℕ) : Type 0 where
   pub entries : (p : ℕ) → entry t p ≡ entry s p
   pub lengths : (p : ℕ) → contentLength t p ≡ contentLength s p
   pub contents : (p : ℕ) → content t p ≡ content s p
+  -- where the content begins
+  pub starts : (p : ℕ) → contentStart t p ≡ contentStart s p
 
 -- ---- what a test keeps out need not be the same
 cond-then {ℓ} : {X : Type ℓ} (b : Bool) (x y z : X) → (b ≡ true → x ≡ y) → cond b x z ≡ cond b y z
@@ -373,6 +375,10 @@ module _ (s t : List ℕ) (same : SameFull s t) where
       go (granted n) h = part-at (contentAt s p) n (h n refl)
       go (denied n q) h = refl
 
+  start-same : (p : ℕ) → contentStart t p ≡ contentStart s p
+  unfolding contentStart
+  start-same p = rw (content-at p, length-same p)
+
 -- No answer depends on the bytes past F, whether the image is accepted or refused.
 pub past-full : (s t : List ℕ) → SameFull s t → SameAnswers s t
 unfolding find entry
@@ -385,4 +391,5 @@ past-full s t same =
           (checked-then (check s) _ _ (λ a. let parts = check-parts s a in described-at s t same (volume-of s (parts .0)) (parts .1) p));
       lengths = length-same s t same;
       contents = content-same s t same;
+      starts = start-same s t same;
     }
