@@ -117,8 +117,8 @@ module _ (s : List ℕ) (p bound depth : ℕ) (h : Sound s p bound depth) where
       (or-no-r (badNext s bound p) (badFirst s bound p) (h .nested))
       t
 
-  pub first-even : hasList s p ≡ true → info s p % 16 ≡ 0
-  first-even t =
+  pub first-16 : hasList s p ≡ true → info s p % 16 ≡ 0
+  first-16 t =
       eqb-true (info s p % 16) 0
       (not-false (eqb (info s p % 16) 0) (or-no-l (not (eqb (info s p % 16) 0)) (ltb (info s p) (endOf s p) || leb (own s bound p) (info s p)) (first-ok t)))
 

@@ -14,3 +14,4 @@ pub mod Given
 pub mod Find
 pub mod Answered
 pub mod Past
+pub mod Means

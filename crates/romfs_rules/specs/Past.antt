@@ -20,10 +20,10 @@ use Rattle.romfs_rules.specs.Layout.{fullSize, nameLength, nameEnds, aft
 use Rattle.romfs_rules.specs.Rules.{Verdict, accepted, refused, short21, magic22, size23, sum24, name25, overBound, badName, badSum, badInfo, badSize, badHeader, badNext, badFirst, badNesting, tooDeep, fault}
 use Rattle.romfs_rules.specs.Reached.{along, IsReached, Sound, root}
 use Rattle.romfs_rules.specs.Check.{andThen, visitList, visitEntry, visitAll, walk, towards, seek, isReached, badLink, links, volume, check}
-use Rattle.romfs_rules.specs.Answers.{Answer, granted, denied, checked, firstOf, matchFrom, matchIn, isDirectory, found, find, entryAt, described, entry, measured, contentLength, partOf, content}
-use Rattle.romfs_rules.specs.Facts.{and-yes-l, fault-sound, next-to, own-to, first-even, first-to}
+use Rattle.romfs_rules.specs.Answers.{Answer, granted, denied, checked, firstOf, matchFrom, matchIn, isDirectory, found, find, entryAt, described, entry, measured, contentLength, partOf, content, contentStart}
+use Rattle.romfs_rules.specs.Facts.{and-yes-l, fault-sound, next-to, own-to, first-16, first-to}
 use Rattle.romfs_rules.specs.Visit.{entry-test}
-use Rattle.romfs_rules.specs.Walked.{Volume, volume-of, full-even, root-in, reached-room}
+use Rattle.romfs_rules.specs.Walked.{Volume, volume-of, full-16, root-in, reached-room}
 use Rattle.romfs_rules.specs.Seek.{is-reached, towards-reached}
 use Rattle.romfs_rules.specs.Theorems.{check-parts}
 use Rattle.romfs_rules.specs.Given.{dir-is, first-reached, content-in}
@@ -39,6 +39,8 @@ pub record SameAnswers (s t : List ℕ) : Type 0 where
   pub entries : (p : ℕ) → entry t p ≡ entry s p
   pub lengths : (p : ℕ) → contentLength t p ≡ contentLength s p
   pub contents : (p : ℕ) → content t p ≡ content s p
+  -- where the content begins
+  pub starts : (p : ℕ) → contentStart t p ≡ contentStart s p
 
 -- ---- what a test keeps out need not be the same
 cond-then {ℓ} : {X : Type ℓ} (b : Bool) (x y z : X) → (b ≡ true → x ≡ y) → cond b x z ≡ cond b y z
@@ -75,13 +77,13 @@ part-take m a n l h =
     getD-part a n (take m l) i j ∙ getD-take m l (a + i) 0 (omega arith) ∙ sym (getD-part a n l i j))
 
 -- headers are at multiples of 16
-next-even : (s : List ℕ) (p : ℕ) → next s p % 16 ≡ 0
+next-16 : (s : List ℕ) (p : ℕ) → next s p % 16 ≡ 0
 unfolding next
-next-even s p = omega arith
+next-16 s p = omega arith
 
-root-even : (s : List ℕ) → firstRoot s % 16 ≡ 0
+root-16 : (s : List ℕ) → firstRoot s % 16 ≡ 0
 unfolding firstRoot afterName
-root-even s = omega arith
+root-16 s = omega arith
 
 module _ (s t : List ℕ) (same : SameFull s t) where
   -- ---- bytes, words and names below F
@@ -224,7 +226,7 @@ module _ (s t : List ℕ) (same : SameFull s t) where
 
   module _ (v : Volume s) where
     room-at : (p : ℕ) → p % 16 ≡ 0 → p < fullSize s → p + 16 ≤ fullSize s
-    room-at p e h = omega (arith, full-even s v)
+    room-at p e h = omega (arith, full-16 s v)
 
     entry-same : (left p bound depth : ℕ) → (left ≢ 0 → Lists (left - 1)) → left + depth ≡ 8 → p + 16 ≤ fullSize s → bound ≤ fullSize s → visitEntry t (fault t) left bound p ≡ visitEntry s (fault s) left bound p
     unfolding visitEntry
@@ -237,7 +239,7 @@ module _ (s t : List ℕ) (same : SameFull s t) where
         (λ u.
         let o : Sound s p bound (7 - left) = fault-sound s p bound (7 - left) a in
         (rw sub-one at (deep (omega arith))) (own s bound p - info s p) (info s p) (own s bound p) (suc depth) (omega arith)
-        (first-even s p bound (7 - left) o u)
+        (first-16 s p bound (7 - left) o u)
         (first-to s p bound (7 - left) o u)
         (omega (arith, own-to s p bound (7 - left) o)))))
 
@@ -252,7 +254,7 @@ module _ (s t : List ℕ) (same : SameFull s t) where
         cond-else (eqb (next s p) 0) _ _ accepted
         (λ z.
         let o : Sound s p bound depth = fault-sound s p bound depth (entry-test s (fault s) bound p left depth l a) in
-        list-same left deep fuel (next s p) bound depth l (next-even s p) (next-to s p bound depth o (eqb-false (next s p) 0 z)) k)))
+        list-same left deep fuel (next s p) bound depth l (next-16 s p) (next-to s p bound depth o (eqb-false (next s p) 0 z)) k)))
 
     lists : (left : ℕ) → Lists left
     lists zero = list-same zero (λ z. absurd (z refl))
@@ -264,7 +266,7 @@ module _ (s t : List ℕ) (same : SameFull s t) where
         rw (first-root, full)
         (cond-else (eqb (firstRoot s) (fullSize s)) _ _ accepted
         (λ z.
-        lists 7 (fullSize s - firstRoot s) (firstRoot s) (fullSize s) 1 (omega arith) (root-even s) (root-in s v (eqb-false (firstRoot s) (fullSize s) z)) (omega arith)))
+        lists 7 (fullSize s - firstRoot s) (firstRoot s) (fullSize s) 1 (omega arith) (root-16 s) (root-in s v (eqb-false (firstRoot s) (fullSize s) z)) (omega arith)))
 
   -- ---- reached headers, on an accepted walk
   module _ (v : Volume s) (w : walk s ≡ accepted) where
@@ -373,6 +375,10 @@ module _ (s t : List ℕ) (same : SameFull s t) where
       go (granted n) h = part-at (contentAt s p) n (h n refl)
       go (denied n q) h = refl
 
+  start-same : (p : ℕ) → contentStart t p ≡ contentStart s p
+  unfolding contentStart
+  start-same p = rw (content-at p, length-same p)
+
 -- No answer depends on the bytes past F, whether the image is accepted or refused.
 pub past-full : (s t : List ℕ) → SameFull s t → SameAnswers s t
 unfolding find entry
@@ -385,4 +391,5 @@ past-full s t same =
           (checked-then (check s) _ _ (λ a. let parts = check-parts s a in described-at s t same (volume-of s (parts .0)) (parts .1) p));
       lengths = length-same s t same;
       contents = content-same s t same;
+      starts = start-same s t same;
     }

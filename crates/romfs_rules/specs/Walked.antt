@@ -56,8 +56,8 @@ module _ (s : List ℕ) (v : Volume s) where
   pub full-to : fullSize s ≤ length s
   full-to = ltb-false (length s) (fullSize s) (or-no-l (ltb (length s) (fullSize s)) (not (eqb (fullSize s % 16) 0)) rest23)
 
-  pub full-even : fullSize s % 16 ≡ 0
-  full-even =
+  pub full-16 : fullSize s % 16 ≡ 0
+  full-16 =
       eqb-true (fullSize s % 16) 0
       (not-false (eqb (fullSize s % 16) 0) (or-no-r (ltb (length s) (fullSize s)) (not (eqb (fullSize s % 16) 0)) rest23))
 
@@ -71,7 +71,7 @@ module _ (s : List ℕ) (v : Volume s) where
 
   pub root-to : firstRoot s ≤ fullSize s
   unfolding firstRoot afterName
-  root-to = omega (arith, full-even, name-in)
+  root-to = omega (arith, full-16, name-in)
 
 -- ---- the root list
 pub visit-none : (s : List ℕ) (test : ℕ → ℕ → ℕ → Verdict) → firstRoot s ≡ fullSize s → visitAll s test ≡ accepted

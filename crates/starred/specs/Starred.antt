@@ -22,6 +22,8 @@ use Rattle.romfs_rules.specs.Layout as romfs
 use Rattle.romfs_rules.specs.Rules.{short21, magic22, size23, sum24, name25, overBound, badName, badSum, badInfo, badSize, badHeader, badNext, badFirst, badNesting, tooDeep, fault}
 use Rattle.romfs_rules.specs.Rules as rom
 use Rattle.romfs_rules.specs.Check.{visitList, visitEntry, visitAll, walk, leads, towards, seek, isReached, badLink, links, volume, check as romCheck}
+use Rattle.romfs_rules.specs.Answers.{granted, denied, firstOf, matchFrom, matchIn, isDirectory, found, find, Entry, entryAt, described, measured, contentLength}
+use Rattle.romfs_rules.specs.Answers as answers
 use Rattle.tfs_rules.specs.Requests.{Answer, done, value, unused, file, refused, Outcome, Store, storeAll, formatStores, format, freeFrom, chosen, placeStores, createStores, createView, stored, create, counted, transferView, read, write, freeAnswer}
 
 -- the names, as bytes
@@ -47,6 +49,16 @@ ROM = words (0x2D726F6D ∷ 0x3166732D ∷ 0x40 ∷ 0x4B271D26 ∷ 0x56000000 �
 abbrev pub romCode : rom.Verdict → List ℕ
 romCode rom.accepted = 0 ∷ []
 romCode (rom.refused num p) = 4 ∷ num ∷ p ∷ []
+
+-- an offset or a length that a romfs request answers, as a row
+abbrev pub numberCode : answers.Answer ℕ → List ℕ
+numberCode (granted n) = 1 ∷ n ∷ []
+numberCode (denied num p) = 4 ∷ num ∷ p ∷ []
+
+-- an entry that it answers, as a row: type, executable, spec.info, size, next and name length
+abbrev pub entryCode : answers.Answer Entry → List ℕ
+entryCode (granted e) = 3 ∷ e .type ∷ e .executable ∷ e .info ∷ e .size ∷ e .next ∷ e .nameLength ∷ []
+entryCode (denied num p) = 4 ∷ num ∷ p ∷ []
 
 -- what the definitions give: an image of 128 blocks, one of 131 and one of 130, a buffer to read into and one to write from
 unfoldable pub computed : (img a b into from : List ℕ) → List (List ℕ)
@@ -77,8 +89,12 @@ computed img a b into from =
     -- create 65,024 in an empty volume, N = 131 and N = 130
     ∷ code (create 512 (format 512 a PUMP .image) TIMING 65024 .answer)
     ∷ code (create 512 (format 512 b PUMP .image) TIMING 65024 .answer)
-    -- the romfs image is accepted
+    -- the romfs image: accepted; volume "V"; "a" found in the root list; its entry, an empty regular file; the length of its content
     ∷ romCode (romCheck ROM)
+    ∷ part 16 (nameLength ROM 16) ROM
+    ∷ numberCode (find ROM 0 (0x61 ∷ []))
+    ∷ entryCode (answers.entry ROM 32)
+    ∷ numberCode (contentLength ROM 32)
     ∷ []
 
 -- the same rows written out
@@ -104,6 +120,10 @@ expected =
     ∷ code (value 3)
     ∷ code (refused 12 0)
     ∷ romCode rom.accepted
+    ∷ (0x56 ∷ [])
+    ∷ numberCode (granted 32)
+    ∷ entryCode (granted (record { type = 2; executable = 0; info = 0; size = 0; next = 0; nameLength = 1 }))
+    ∷ numberCode (granted 0)
     ∷ []
 
 -- ---- the images after format and create
@@ -117,6 +137,11 @@ made img = storeAll 512 (formatted img) (createStores 512 (viewN 512 128 (format
 computing : Unit {0}
 unfolding least sum zeroAt firstZero upToZero word bitOf withBit part withPart need block setBlock mapBit setBit slot setSlot slotInode slotName slotFree nameFormed slotUsed sameName entry inodeSize inodeNumber inodeBlock labelAllowed nameAllowed inodeAt viewN free used inode name size number slotOf slotWith freeSlot freeBlocks badMagic badLabel repeats badSlot badNumber badInode fileClaims claimsTo claims checkView formatStores freeFrom chosen placeStores createStores createView counted transferView formatted made
 computing = tt
+
+-- .. and those that are computed on the romfs image
+computing-rom : Unit {0}
+unfolding least word part fullSize zeroAt nameLength nameEnds afterName firstRoot kind executable next info romfs.size romfs.name contentAt endOf own isDots descends hasList hasData wordSum short21 magic22 size23 sum24 name25 overBound badName badSum badInfo badSize badHeader badNext badFirst badNesting tooDeep fault visitList visitEntry visitAll walk leads towards seek isReached badLink links volume romCheck firstOf matchFrom matchIn isDirectory found find entryAt described answers.entry measured contentLength
+computing-rom = tt
 
 -- ---- an image of n blocks, and such a volume
 record Image (n : ℕ) (img : List ℕ) : Type 0 where
@@ -216,14 +241,9 @@ module _ {img : List ℕ} (g : Image 128 img) where
   write-made : (o k : ℕ) (buf : List ℕ) → length buf ≡ k → write 512 (create 512 (format 512 img PUMP .image) TIMING 1000 .image) 3 o buf .answer ≡ transferView 512 (viewN 512 128 (made img)) 3 o k
   write-made o k buf e = ap (λ (c : Outcome). write 512 (c .image) 3 o buf .answer) is-made ∙ write-is filled 3 o k buf e
 
--- ---- the romfs image
-rom-accepted : romCheck ROM ≡ rom.accepted
-unfolding least word part fullSize zeroAt nameLength nameEnds afterName firstRoot kind executable next info romfs.size romfs.name contentAt endOf own isDots descends hasList hasData wordSum short21 magic22 size23 sum24 name25 overBound badName badSum badInfo badSize badHeader badNext badFirst badNesting tooDeep fault visitList visitEntry visitAll walk leads towards seek isReached badLink links volume romCheck
-rom-accepted = refl
-
 -- every row of the table at once, for any images and buffers of these lengths
 pub starred : (img a b into from : List ℕ) → length img ≡ 65536 → length a ≡ 67072 → length b ≡ 66560 → length into ≡ 200 → length from ≡ 30 → computed img a b into from ≡ expected
-unfolding computed expected computing
+unfolding computed expected computing computing-rom
 starred img a b into from len len-a len-b len-into len-from =
     let g : Image 128 img = record { low = lit≤ tt; high = lit≤ tt; whole = len } in
     let g-a : Image 131 a = record { low = lit≤ tt; high = lit≤ tt; whole = len-a } in
@@ -248,5 +268,9 @@ starred img a b into from len len-a len-b len-into len-from =
     ∷ (cond (mapBit (0x00 ∷ 0x00 ∷ 0x00 ∷ 0x00 ∷ 0x00 ∷ 0x00 ∷ 0x00 ∷ 0x01 ∷ zeros 504) 32) 1 0 ∷ [])
     ∷ code (created g-a refl 65024 i .answer)
     ∷ code (created g-b refl 65024 i .answer)
-    ∷ romCode (rom-accepted i)
+    ∷ romCode (romCheck ROM)
+    ∷ part 16 (nameLength ROM 16) ROM
+    ∷ numberCode (find ROM 0 (0x61 ∷ []))
+    ∷ entryCode (answers.entry ROM 32)
+    ∷ numberCode (contentLength ROM 32)
     ∷ []
