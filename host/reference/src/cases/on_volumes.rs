@@ -99,7 +99,7 @@ impl CaseMaker {
         match damaged {
             None => {
                 self.check(&made.image);
-                (0..2).for_each(|_| self.other(made, &made.image));
+                (0..OTHERS.len()).for_each(|_| self.other(made, &made.image));
                 if made.files.len() == SLOTS {
                     self.crowd(made);
                 }
