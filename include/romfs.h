@@ -3,8 +3,8 @@
  *
  * Every request takes the whole image as a pointer and a length, of any
  * content and any length, and answers by value. Nothing is written. No
- * allocation, no global state; recursion is at most eight lists deep, so the
- * stack is bounded for any image.
+ * allocation, no global state; recursion is at most eight lists deep, under
+ * 16 KiB of stack for any image.
  *
  * What the caller must keep to:
  *  - a pointer is valid, readable, for the length beside it;

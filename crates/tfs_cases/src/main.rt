@@ -1,6 +1,6 @@
 // Runs packed test cases, made by a second program, through the TFS requests, and compares refusal, place, values, name, and the
 // hash of image and buffer afterwards. One line for each case that differs, then the counts. The input is that of host/reference:
-// pack tfs crates/tfs_cases/stdin --seed 1 --cases 300
+// pack tfs crates/tfs_cases/stdin --seed 1 --cases 600
 use libc::STDOUT_FILENO;
 use tfs_answers::Answer;
 use tfs_answers::Done;
