@@ -4,29 +4,33 @@
 use mathlib.Core.Path.{_≡_, refl, sym, ap, ap₂, _∙_, subst}
 use mathlib.Core.Logic.{_↔_}
 use mathlib.Core.Bool.{not}
-use mathlib.Core.Option.{none}
+use mathlib.Core.Option.{none, some}
 use Prim.Native.Nat.{ℕ, _+_, _-_, _*_, _/_, _≤_, _<_}
 use mathlib.Core.List.{List, [], _∷_, _++_}
 use native.Mathlib.Omega.{arith}
-use lib.ListN.{length, getD}
+use lib.ListN.{length, getD, take}
 use lib.Dec.{T}
+use Rattle.lists.specs.Table.{table}
 use Rattle.lists.specs.Name.{zeros}
 use Rattle.lists.specs.Bits.{withBit}
 use Rattle.tfs_rules.specs.Layout.{slots, numbers, maxSize, need, blocks, block, setBit, setBits, labelAllowed, nameAllowed}
-use Rattle.tfs_rules.specs.View.{view, size, freeBlocks, contents}
+use Rattle.tfs_rules.specs.View.{view, size, number, freeBlocks, content, contents}
 use Rattle.tfs_rules.specs.Check.{Verdict, consistent, broken, check}
-use Rattle.tfs_rules.specs.Consistent.{Consistent, FirstBroken}
+use Rattle.tfs_rules.specs.Consistent.{File, Consistent, FirstBroken}
 use Rattle.tfs_rules.specs.CheckMeans.{check-means, check-breaks}
 use Rattle.tfs_rules.specs.Requests.{Answer, done, value, refused, granted, checked, format, checkAnswer, openAnswer, create, remove, read, write, listAnswer, freeAnswer}
 use Rattle.tfs_rules.specs.Total.{inodeCount, contentCount, adds-up}
 use Rattle.tfs_facts.specs.Views.{view-n}
+use Rattle.tfs_laws.specs.Writes.{joined}
+use Rattle.tfs_laws.specs.Content.{content-joined}
+use Rattle.tfs_laws.specs.Others.{stands, stands-not}
 use Rattle.tfs_laws.specs.Changes.{Change, creates, removes, writes, perform, refused-keeps, Changed, changed, stays-consistent}
 use Rattle.tfs_laws.specs.Formats.{format-refused, format-grants, format-consistent, format-empty, format-past, format-length, format-head, format-map, format-directory}
 use Rattle.tfs_laws.specs.Reads.{ReadLaw, read-law, read-refused}
 use Rattle.tfs_laws.specs.Handles.{Means, HandleRefused, open-means, open-number, removed-refused, created-handle, KeptHandle, kept-handle}
 use Rattle.tfs_laws.specs.Kept.{KeptLaw, create-kept, remove-kept, write-kept}
 use Rattle.tfs_laws.specs.Tail.{TailKept, tail-kept, SameVolume, TailLaw, tail-unread}
-use Rattle.tfs_laws.specs.Grants.{Stands, LabelRule, NameRule, label-allowed, name-allowed, FormatRule, format-rule, GrantLaw, grants, CreateGranted, create-grants}
+use Rattle.tfs_laws.specs.Grants.{Stands, stands-at, Fresh, fresh-high, LabelRule, NameRule, label-allowed, name-allowed, FormatRule, format-rule, GrantLaw, grants, CreateGranted, create-grants}
 use Rattle.tfs_laws.specs.Touches.{RemoveTouch, remove-touches, CreateTouch, create-touches}
 use Rattle.tfs_laws.specs.Rooms.{removed-room, created-room, written-room}
 use Rattle.tfs_laws.specs.HandleSteps.{MeansFile, means-file, afterAll, StepLaw, step-law, HandlesLaw, handles-law}
@@ -226,6 +230,22 @@ format-law img label h t =
       directory = format-directory size-512 img label g;
       past = format-past size-512 img label;
       long = format-length size-512 img label;
+    }
+
+-- the content of a file, and what stands under a name
+pub record ContentLaw (img : List ℕ) : Type 0 where
+  -- "A file's content is the first size bytes of its listed blocks in order"
+  pub file : (s : ℕ) → File 512 (view 512 img) s → content 512 (view 512 img) img s ≡ take (size (view 512 img) s) (joined (table (λ k. block 512 img (number (view 512 img) s k)) 0 (need 512 (size (view 512 img) s))))
+  -- the content of the file with that name, or none
+  pub named : (nm : List ℕ) (s : ℕ) → Stands 512 (view 512 img) nm s → contents 512 img nm ≡ some (content 512 (view 512 img) img s)
+  pub absent : (nm : List ℕ) → Fresh 512 (view 512 img) nm → contents 512 img nm ≡ none
+
+pub content-law : (img : List ℕ) → Consistent 512 img → ContentLaw img
+content-law img ok =
+    record {
+      file = content-joined 512 size-512 img ok;
+      named = λ nm s st. stands 512 img nm s (stands-at 512 (view 512 img) nm (ok .sound) s st) (st .file .slot);
+      absent = λ nm none. stands-not 512 img nm (fresh-high 512 (view 512 img) nm none);
     }
 
 -- read's bytes are those of the file from the offset on; the rest of the buffer is left
