@@ -25,7 +25,7 @@ use Rattle.tfs_laws.specs.Writes.{joined}
 use Rattle.tfs_laws.specs.Content.{content-joined}
 use Rattle.tfs_laws.specs.Others.{stands, stands-not}
 use Rattle.tfs_laws.specs.Changes.{Change, creates, removes, writes, perform, refused-keeps, Changed, changed, stays-consistent}
-use Rattle.tfs_laws.specs.Formats.{format-refused, format-grants, format-consistent, format-empty, format-past, format-length, format-head, format-map, format-directory}
+use Rattle.tfs_laws.specs.Formats.{format-refused, format-grants, format-consistent, format-empty, format-handles, format-past, format-length, format-head, format-map, format-directory}
 use Rattle.tfs_laws.specs.Reads.{ReadLaw, read-law, read-refused}
 use Rattle.tfs_laws.specs.Handles.{Means, HandleRefused, open-means, open-number, removed-refused, created-handle, KeptHandle, kept-handle}
 use Rattle.tfs_laws.specs.Kept.{KeptLaw, create-kept, remove-kept, write-kept}
@@ -200,12 +200,13 @@ pub touch-law : (img : List ℕ) → Consistent 512 img → TouchLaw img
 touch-law img ok = record { created = create-touches 512 size-512 img ok; removed = remove-touches 512 size-512 img ok }
 
 -- format grants every image of 1,536 bytes or more and every allowed name,
--- and leaves a consistent volume in which no name stands; every byte from 1,536 on and the length are as before.
+-- and leaves a consistent volume in which no name stands and read and write refuse every handle (14); every byte from 1,536 on and the length are as before.
 -- "Zeros all of blocks 0 to 2 ..; sets magic, name and map bits 0, 1, 2": the bytes of the three blocks
 pub record FormatLaw (img label : List ℕ) : Type 0 where
   pub answer : format 512 img label .answer ≡ done
   pub consistent : Consistent 512 (format 512 img label .image)
   pub empty : (nm : List ℕ) → contents 512 (format 512 img label .image) nm ≡ none
+  pub handles : (h : ℕ) → HandleRefused 512 (format 512 img label .image) h
   pub head : block 512 (format 512 img label .image) 0 ≡ 0 ∷ 0 ∷ 14 ∷ 161 ∷ (label ++ zeros (508 - length label))
   pub map : block 512 (format 512 img label .image) 1 ≡ 0 ∷ 0 ∷ 0 ∷ 7 ∷ zeros 508
   pub directory : block 512 (format 512 img label .image) 2 ≡ zeros 512
@@ -225,6 +226,7 @@ format-law img label h t =
       answer = e;
       consistent = format-consistent size-512 img label g;
       empty = format-empty size-512 img label g;
+      handles = format-handles size-512 img label g;
       head = format-head size-512 img label g;
       map = format-map size-512 img label g ∙ three-marked;
       directory = format-directory size-512 img label g;
