@@ -296,7 +296,7 @@ pub record KeepLaw (img : List ℕ) : Type 0 where
 pub kept-law : (img : List ℕ) → KeepLaw img
 kept-law img = record { created = create-kept size-512 img; removed = remove-kept size-512 img; written = write-kept size-512 img }
 
--- the rest of block 0, those bytes and those bits have no say in any answer, nor in what read gives
+-- the rest of block 0, those bytes, those bits and the bytes from 512·N on have no say in any answer, nor in what read gives
 pub ignored-law : (a b : List ℕ) → SameRead 512 a b → IgnoredLaw 512 a b
 ignored-law a b same = ignored 512 size-512 a b same
 
