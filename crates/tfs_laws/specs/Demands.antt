@@ -194,7 +194,7 @@ effect-law img ok = record { stays = stays-consistent 512 size-512 img ok; chang
 -- of write see law-writes in Laws.antt
 pub record TouchLaw (img : List ℕ) : Type 0 where
   pub created : (nm : List ℕ) (z h : ℕ) → create 512 img nm z .answer ≡ value h → (s : ℕ) × (cs : List ℕ) × CreateTouch 512 img (create 512 img nm z .image) nm z h s cs
-  pub removed : (nm : List ℕ) (s : ℕ) → Stands 512 (view 512 img) nm s → T (granted (remove 512 img nm .answer)) → RemoveTouch 512 img (remove 512 img nm .image) s
+  pub removed : (nm : List ℕ) (s : ℕ) → Stands 512 (view 512 img) nm s → RemoveTouch 512 img (remove 512 img nm .image) s
 
 pub touch-law : (img : List ℕ) → Consistent 512 img → TouchLaw img
 touch-law img ok = record { created = create-touches 512 size-512 img ok; removed = remove-touches 512 size-512 img ok }
@@ -327,7 +327,7 @@ total-law img ok =
 
 -- "Room freed by remove counts for 12 at once"; create takes 1 + ⌈size/512⌉ blocks; write takes none
 pub record RoomLaw (img : List ℕ) : Type 0 where
-  pub removed : (nm : List ℕ) (s : ℕ) → Stands 512 (view 512 img) nm s → T (granted (remove 512 img nm .answer)) → freeBlocks (view 512 (remove 512 img nm .image)) ≡ freeBlocks (view 512 img) + (1 + need 512 (size (view 512 img) s))
+  pub removed : (nm : List ℕ) (s : ℕ) → Stands 512 (view 512 img) nm s → freeBlocks (view 512 (remove 512 img nm .image)) ≡ freeBlocks (view 512 img) + (1 + need 512 (size (view 512 img) s))
   pub created : (nm : List ℕ) (z : ℕ) → T (granted (create 512 img nm z .answer)) → freeBlocks (view 512 (create 512 img nm z .image)) + (1 + need 512 z) ≡ freeBlocks (view 512 img)
   pub written : (h o : ℕ) (buf : List ℕ) → freeBlocks (view 512 (write 512 img h o buf .image)) ≡ freeBlocks (view 512 img)
 

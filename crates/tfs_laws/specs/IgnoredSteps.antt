@@ -192,10 +192,10 @@ module _ (B : ℕ) (sz : BlockSize B) (a b : List ℕ) (same : SameRead B a b) (
       stb = subst (Stands B w nm) (sym (slot-of-alike B v w al nm)) (stands-hit B w nm (remove-granted B b (check-means B sz b .1 okb) nm gb))
 
       ta : RemoveTouch B a (remove B a nm .image) s
-      ta = remove-touches B sz a oka nm s sta ga
+      ta = remove-touches B sz a oka nm s sta
 
       tb : RemoveTouch B b (remove B b nm .image) s
-      tb = remove-touches B sz b okb nm s stb gb
+      tb = remove-touches B sz b okb nm s stb
 
       to : (i : ℕ) → BlockOf B v s i → BlockOf B w s i
       to i o =
