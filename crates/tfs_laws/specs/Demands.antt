@@ -30,7 +30,7 @@ use Rattle.tfs_laws.specs.Reads.{ReadLaw, read-law, read-refused}
 use Rattle.tfs_laws.specs.Handles.{Means, HandleRefused, open-means, open-number, removed-refused, created-handle, KeptHandle, kept-handle}
 use Rattle.tfs_laws.specs.Kept.{KeptLaw, create-kept, remove-kept, write-kept}
 use Rattle.tfs_laws.specs.Tail.{TailKept, tail-kept, SameVolume, TailLaw, tail-unread}
-use Rattle.tfs_laws.specs.Grants.{Stands, stands-at, Fresh, fresh-high, LabelRule, NameRule, label-allowed, name-allowed, FormatRule, format-rule, GrantLaw, grants, CreateGranted, create-grants}
+use Rattle.tfs_laws.specs.Grants.{Stands, stands-hit, stands-at, stands-removed, Fresh, fresh-high, LabelRule, NameRule, label-allowed, name-allowed, FormatRule, format-rule, GrantLaw, grants, CreateGranted, create-grants}
 use Rattle.tfs_laws.specs.Touches.{RemoveTouch, remove-touches, CreateTouch, create-touches}
 use Rattle.tfs_laws.specs.Rooms.{removed-room, created-room, written-room}
 use Rattle.tfs_laws.specs.HandleSteps.{MeansFile, means-file, afterAll, StepLaw, step-law, HandlesLaw, handles-law}
@@ -260,20 +260,25 @@ pub record HandleLaw (img : List ℕ) : Type 0 where
   pub opened : (nm : List ℕ) (h : ℕ) → openAnswer 512 img nm ≡ value h → Means 512 (view 512 img) h nm
   pub created : (nm : List ℕ) (z h : ℕ) → create 512 img nm z .answer ≡ value h → Means 512 (view 512 (create 512 img nm z .image)) h nm
   -- "A handle kept over a remove is refused, or means the new file if a create has taken that block as its inode"
-  pub removed : (nm : List ℕ) (k : ℕ) → openAnswer 512 img nm ≡ value k → T (granted (remove 512 img nm .answer)) → HandleRefused 512 (remove 512 img nm .image) k
-  pub kept : (nm other : List ℕ) (z h k : ℕ) → openAnswer 512 img nm ≡ value k → T (granted (remove 512 img nm .answer)) → create 512 (remove 512 img nm .image) other z .answer ≡ value h → KeptHandle 512 (create 512 (remove 512 img nm .image) other z .image) other h k
+  pub removed : (nm : List ℕ) (k : ℕ) → openAnswer 512 img nm ≡ value k → HandleRefused 512 (remove 512 img nm .image) k
+  pub kept : (nm other : List ℕ) (z h k : ℕ) → openAnswer 512 img nm ≡ value k → create 512 (remove 512 img nm .image) other z .answer ≡ value h → KeptHandle 512 (create 512 (remove 512 img nm .image) other z .image) other h k
 
 pub handle-law : (img : List ℕ) → Consistent 512 img → HandleLaw img
 handle-law img ok =
     record {
       opened = open-means 512 size-512 img ok;
       created = created-handle 512 size-512 img ok;
-      removed = λ nm k e g.
-          subst (HandleRefused 512 (remove 512 img nm .image)) (open-number 512 size-512 img ok nm k e) (removed-refused 512 size-512 img ok nm g);
-      kept = λ nm other z h k e g c.
+      removed = λ nm k e.
+          subst (HandleRefused 512 (remove 512 img nm .image)) (open-number 512 size-512 img ok nm k e) (removed-refused 512 size-512 img ok nm (opened-removed nm k e));
+      kept = λ nm other z h k e c.
           subst (KeptHandle 512 (create 512 (remove 512 img nm .image) other z .image) other h) (open-number 512 size-512 img ok nm k e)
-          (kept-handle 512 size-512 img ok nm other z h g c);
+          (kept-handle 512 size-512 img ok nm other z h (opened-removed nm k e) c);
     }
+  where
+    -- what open finds remove takes
+    opened-removed : (nm : List ℕ) (k : ℕ) → openAnswer 512 img nm ≡ value k → T (granted (remove 512 img nm .answer))
+    opened-removed nm k e =
+        stands-removed 512 size-512 img ok nm _ (stands-hit 512 (view 512 img) nm (open-means 512 size-512 img ok nm k e .0))
 
 -- what a handle means, in plain facts, and over one request
 pub record HandleStepLaw (img : List ℕ) : Type 0 where
