@@ -181,7 +181,7 @@ pub record NameLaw (nm : List ℕ) : Type 0 where
 pub name-law : (nm : List ℕ) → NameLaw nm
 name-law nm = record { name = name-allowed nm; label = label-allowed nm }
 
--- "The volume stays consistent", and a granted request changes what stands under one name:
+-- "The volume stays consistent", and a granted create, remove or write changes what stands under one name:
 -- every other name keeps its size and bytes
 pub record EffectLaw (img : List ℕ) : Type 0 where
   pub stays : (c : Change) → Consistent 512 (perform 512 img c .image)
@@ -280,7 +280,7 @@ handle-law img ok =
     opened-removed nm k e =
         stands-removed 512 size-512 img ok nm _ (stands-hit 512 (view 512 img) nm (open-means 512 size-512 img ok nm k e .0))
 
--- what a handle means, in plain facts, and over one request
+-- what a handle means, in plain facts, and over one request out of create, remove and write
 pub record HandleStepLaw (img : List ℕ) : Type 0 where
   pub means : (h : ℕ) (nm : List ℕ) → Means 512 (view 512 img) h nm ↔ MeansFile 512 (view 512 img) h nm
   pub step : StepLaw 512 img

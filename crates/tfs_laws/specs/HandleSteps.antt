@@ -1,5 +1,5 @@
--- Handles over any number of requests: one that means a file means it until the file is removed,
--- and one that means no file means none until a create answers it.
+-- Handles over any number of requests out of create, remove and write: one that means a file means it until the file is removed,
+-- and one that means no file means none until a create answers it. After a format every handle is refused: Formats.antt.
 use mathlib.Core.Path.{_≡_, refl, sym, ap, _∙_, subst}
 use mathlib.Core.Logic.{_≢_, _↔_}
 use Prim.Native.Nat.{ℕ, _≤_, _<_}
@@ -43,7 +43,7 @@ means-file B v ok h nm = (
       ),
 )
 
--- ---- one request
+-- ---- one request out of create, remove and write
 -- c is a granted remove of nm
 abbrev pub RemovesName : ℕ → List ℕ → List ℕ → Change → Type 0
 RemovesName B img nm c = (c ≡ removes nm) × T (granted (perform B img c .answer))
@@ -143,7 +143,7 @@ module _ (B : ℕ) (sz : BlockSize B) (img : List ℕ) (ok : Consistent B img) w
   step-new nm z h e =
       means-file B (view B (create B img nm z .image)) (stays-consistent B sz img ok (creates nm z) .sound) h nm .0 (created-handle B sz img ok nm z h e)
 
--- one request, granted or refused
+-- one request out of create, remove and write, granted or refused
 pub record StepLaw (B : ℕ) (img : List ℕ) : Type 0 where
   -- a handle that means a file means it after any request but the file's remove, and none after that
   pub file : (c : Change) (h : ℕ) (nm : List ℕ) → MeansFile B (view B img) h nm → (RemovesName B img nm c → ⊥) → MeansFile B (view B (perform B img c .image)) h nm
@@ -156,7 +156,7 @@ pub step-law : (B : ℕ) → BlockSize B → (img : List ℕ) → Consistent B i
 step-law B sz img ok =
     record { file = step-file B sz img ok; gone = step-gone B sz img ok; none = step-none B sz img ok; new = step-new B sz img ok }
 
--- ---- any number of requests, refused ones included
+-- ---- any number of requests out of create, remove and write, refused ones included
 -- "each request gets the image the last one left"
 unfoldable pub afterAll : ℕ → List ℕ → List Change → List ℕ
 afterAll B img [] = img
