@@ -18,7 +18,7 @@ use Rattle.tfs_rules.specs.View.{view, size, number, freeBlocks, content, conte
 use Rattle.tfs_rules.specs.Check.{Verdict, consistent, broken, check}
 use Rattle.tfs_rules.specs.Consistent.{File, Consistent, FirstBroken}
 use Rattle.tfs_rules.specs.CheckMeans.{check-means, check-breaks}
-use Rattle.tfs_rules.specs.Requests.{Answer, done, value, refused, granted, checked, format, checkAnswer, openAnswer, create, remove, read, write, listAnswer, freeAnswer}
+use Rattle.tfs_rules.specs.Requests.{Answer, done, value, refused, granted, Outcome, Filled, checked, format, checkAnswer, openAnswer, create, remove, read, write, listAnswer, freeAnswer}
 use Rattle.tfs_rules.specs.Total.{inodeCount, contentCount, adds-up}
 use Rattle.tfs_facts.specs.Views.{view-n}
 use Rattle.tfs_laws.specs.Writes.{joined}
@@ -31,6 +31,7 @@ use Rattle.tfs_laws.specs.Handles.{Means, HandleRefused, open-means, ope
 use Rattle.tfs_laws.specs.Kept.{KeptLaw, create-kept, remove-kept, write-kept}
 use Rattle.tfs_laws.specs.Tail.{TailKept, tail-kept, SameVolume, TailLaw, tail-unread}
 use Rattle.tfs_laws.specs.Grants.{Stands, stands-hit, stands-at, stands-removed, Fresh, fresh-high, LabelRule, NameRule, label-allowed, name-allowed, FormatRule, format-rule, GrantLaw, grants, CreateGranted, create-grants}
+use Rattle.tfs_laws.specs.Answers.{Numbered, checkThen, broken-numbered, find-numbered, create-numbered, transfer-numbered, list-numbered, format-numbered}
 use Rattle.tfs_laws.specs.Touches.{RemoveTouch, remove-touches, CreateTouch, create-touches}
 use Rattle.tfs_laws.specs.Rooms.{removed-room, created-room, written-room}
 use Rattle.tfs_laws.specs.HandleSteps.{MeansFile, means-file, afterAll, StepLaw, step-law, HandlesLaw, handles-law}
@@ -106,6 +107,57 @@ faulty-law img bad = go (check 512 img) refl
     go (broken num p) e =
         let first : FirstBroken 512 img num p = check-breaks 512 size-512 img num p .0 e in
         record { rule = num; place = p; first = first; refusals = fault-law img num p first }
+
+-- "it ends with a result or one refusal from the numbered table": every answer is a grant, or a refusal with a number that is the request's.
+-- The check's numbers are 1 to 7; format makes no check
+pub record AnswerLaw (img : List ℕ) : Type 0 where
+  pub on-format : (label : List ℕ) → Numbered (1 ∷ 8 ∷ []) (format 512 img label .answer)
+  pub on-check : Numbered (checkThen []) (checkAnswer 512 img)
+  pub on-open : (nm : List ℕ) → Numbered (checkThen (8 ∷ 13 ∷ [])) (openAnswer 512 img nm)
+  pub on-create : (nm : List ℕ) (z : ℕ) → Numbered (checkThen (8 ∷ 9 ∷ 10 ∷ 11 ∷ 12 ∷ [])) (create 512 img nm z .answer)
+  pub on-remove : (nm : List ℕ) → Numbered (checkThen (8 ∷ 13 ∷ [])) (remove 512 img nm .answer)
+  pub on-read : (h o : ℕ) (buf : List ℕ) → Numbered (checkThen (14 ∷ 15 ∷ [])) (read 512 img h o buf .answer)
+  pub on-write : (h o : ℕ) (buf : List ℕ) → Numbered (checkThen (14 ∷ 15 ∷ [])) (write 512 img h o buf .answer)
+  pub on-list : (s : ℕ) → Numbered (checkThen (14 ∷ [])) (listAnswer 512 img s)
+  pub on-free : Numbered (checkThen []) (freeAnswer 512 img)
+
+-- on every image, consistent or not
+pub answer-law : (img : List ℕ) → AnswerLaw img
+unfolding checkAnswer freeAnswer
+answer-law img =
+    record {
+      on-format = λ label. format-numbered 512 img label (format 512 img label .answer) (format-rule 512 img label (format 512 img label .answer) .0 refl);
+      on-check = answered [] (checkAnswer 512 img) (λ num p law. law .on-check) (λ ok. rw (check-means 512 size-512 img .1 ok) tt);
+      on-open = λ nm.
+          answered (8 ∷ 13 ∷ []) (openAnswer 512 img nm) (λ num p law. law .on-open nm)
+          (λ ok. find-numbered 512 (view 512 img) nm _ (λ s. tt) (openAnswer 512 img nm) (grants 512 size-512 img ok .on-open nm (openAnswer 512 img nm) .0 refl));
+      on-create = λ nm z.
+          answered (8 ∷ 9 ∷ 10 ∷ 11 ∷ 12 ∷ []) (create 512 img nm z .answer) (λ num p law. ap (λ (o : Outcome). o .answer) (law .on-create nm z))
+          (λ ok. create-numbered 512 (view 512 img) nm z (create 512 img nm z .answer) (grants 512 size-512 img ok .on-create nm z (create 512 img nm z .answer) .0 refl));
+      on-remove = λ nm.
+          answered (8 ∷ 13 ∷ []) (remove 512 img nm .answer) (λ num p law. ap (λ (o : Outcome). o .answer) (law .on-remove nm))
+          (λ ok. find-numbered 512 (view 512 img) nm _ (λ s. tt) (remove 512 img nm .answer) (grants 512 size-512 img ok .on-remove nm (remove 512 img nm .answer) .0 refl));
+      on-read = λ h o buf.
+          answered (14 ∷ 15 ∷ []) (read 512 img h o buf .answer) (λ num p law. ap (λ (f : Filled). f .answer) (law .on-read h o buf))
+          (λ ok. transfer-numbered 512 (view 512 img) h o (length buf) (read 512 img h o buf .answer) (grants 512 size-512 img ok .on-read h o buf (read 512 img h o buf .answer) .0 refl));
+      on-write = λ h o buf.
+          answered (14 ∷ 15 ∷ []) (write 512 img h o buf .answer) (λ num p law. ap (λ (w : Outcome). w .answer) (law .on-write h o buf))
+          (λ ok. transfer-numbered 512 (view 512 img) h o (length buf) (write 512 img h o buf .answer) (grants 512 size-512 img ok .on-write h o buf (write 512 img h o buf .answer) .0 refl));
+      on-list = λ s.
+          answered (14 ∷ []) (listAnswer 512 img s) (λ num p law. law .on-list s)
+          (λ ok. list-numbered 512 (view 512 img) s (listAnswer 512 img s) (grants 512 size-512 img ok .on-list s (listAnswer 512 img s) .0 refl));
+      on-free = answered [] (freeAnswer 512 img) (λ num p law. law .on-free) (λ ok. rw (check-means 512 size-512 img .1 ok) tt);
+    }
+  where
+    -- the check's refusal, or what the rules give a consistent volume
+    answered : (own : List ℕ) (a : Answer) → ((num p : ℕ) → FaultLaw img num p → a ≡ refused num p) → (Consistent 512 img → Numbered (checkThen own) a) → Numbered (checkThen own) a
+    answered own a fault fine = go (check 512 img) refl
+      where
+        go : (x : Verdict) → check 512 img ≡ x → Numbered (checkThen own) a
+        go consistent e = fine (check-means 512 size-512 img .0 e)
+        go (broken num p) e =
+            let first : FirstBroken 512 img num p = check-breaks 512 size-512 img num p .0 e in
+            subst (Numbered (checkThen own)) (sym (fault num p (fault-law img num p first))) (broken-numbered 512 img own num p (first .here))
 
 -- "A refused request changes no byte of the image or of any buffer"
 pub record RefusalLaw (img : List ℕ) : Type 0 where
