@@ -1,4 +1,4 @@
--- The requests that change a volume, as one kind: consistency after each, and the change of the plain view that each is.
+-- Create, remove and write as one kind of request: consistency after each, and the change of the plain view that each is. Of format see Formats.antt.
 use mathlib.Core.Path.{_≡_, refl, sym, ap, _∙_, subst}
 use mathlib.Core.Bool.{Bool, not, cond}
 use Prim.Native.Nat.{ℕ, _<_}

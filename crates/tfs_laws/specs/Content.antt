@@ -1,16 +1,22 @@
--- The content of a file, byte by byte, and what stands under a name.
-use mathlib.Core.Path.{_≡_, refl, sym, ap, _∙_}
+-- The content of a file, byte by byte and as its listed blocks in order, and what stands under a name.
+use mathlib.Core.Path.{_≡_, refl, sym, ap, _∙_, subst}
 use mathlib.Core.Bool.{Bool, true, false, cond}
-use Prim.Native.Nat.{ℕ, _<_}
-use mathlib.Core.List.{List}
+use Prim.Native.Nat.{ℕ, zero, suc, _+_, _-_, _*_, _/_, _%_, _≤_, _<_}
+use mathlib.Core.List.{List, _++_}
 use mathlib.Core.Option.{Option, none, some, Option·map}
 use native.Mathlib.Omega.{arith}
-use native.Mathlib.Nat.{zero-add}
-use lib.ListN.{length, getD}
+use native.Mathlib.Nat.{zero-add, suc-mul, div-add-mod', mod-lt}
+use lib.ListN.{length, getD, take, length-take, length-append, List·getD-append}
+use lib.Seq.{ext-getD, getD-take, getD-append-add}
 use lib.Dec.{ltb}
 use Rattle.lists.specs.Table.{table, length-table, getD-table, table-cong}
-use Rattle.tfs_rules.specs.Layout.{slots}
-use Rattle.tfs_rules.specs.View.{View, view, size, slotOf, place, content, contents}
+use Rattle.tfs_rules.specs.Layout.{BlockSize, slots, need, block}
+use Rattle.tfs_rules.specs.View.{View, view, size, number, slotOf, place, content, contents}
+use Rattle.tfs_rules.specs.Consistent.{File, Consistent}
+use Rattle.tfs_facts.specs.Sizes.{in-need, in-block, in-image}
+use Rattle.tfs_facts.specs.Views.{view-n}
+use Rattle.tfs_facts.specs.Stores.{length-block, byte-at}
+use Rattle.tfs_laws.specs.Writes.{joined}
 
 pub length-content : (B : ℕ) (v : View) (img : List ℕ) (s : ℕ) → length (content B v img s) ≡ size v s
 unfolding content
@@ -30,6 +36,69 @@ content-by B v new img s f h =
     let k : p < size v s = omega arith in
     h p k ∙ ap (f p) (sym (content-byte B v img s p k)))
     ∙ ap (λ (n : ℕ). table (λ p. f p (getD (content B v img s) p 0)) 0 n) (sym (length-content B v img s))
+
+-- ---- the listed blocks, one after another
+-- a list of parts of one length, joined: its length, and byte r of part j
+length-joined : (f : ℕ → List ℕ) (B k d : ℕ) → ((i : ℕ) → k ≤ i → i < k + d → length (f i) ≡ B) → length (joined (table f k d)) ≡ d * B
+length-joined f B k zero h = omega arith
+length-joined f B k (suc d) h =
+    length-append (f k) (joined (table f (suc k) d))
+    ∙ omega (arith, h k (omega arith) (omega arith), length-joined f B (suc k) d (λ i a b. h i (omega arith) (omega arith)), suc-mul d B)
+
+joined-byte : (f : ℕ → List ℕ) (B j k d r : ℕ) → ((i : ℕ) → k ≤ i → i < k + d → length (f i) ≡ B) → j < d → r < B → getD (joined (table f k d)) (j * B + r) 0 ≡ getD (f (k + j)) r 0
+joined-byte f B j k zero r h l m = absurd (omega arith)
+joined-byte f B zero k (suc d) r h l m =
+    let at : 0 * B + r ≡ r = omega arith in
+    ap (λ (q : ℕ). getD (f k ++ joined (table f (suc k) d)) q 0) at
+    ∙ List·getD-append (f k) (joined (table f (suc k) d)) 0 r (omega (arith, h k (omega arith) (omega arith)))
+    ∙ ap (λ (i : ℕ). getD (f i) r 0) (omega arith)
+joined-byte f B (suc j) k (suc d) r h l m =
+    let at : suc j * B + r ≡ length (f k) + (j * B + r) = omega (arith, suc-mul j B, h k (omega arith) (omega arith)) in
+    ap (λ (q : ℕ). getD (f k ++ joined (table f (suc k) d)) q 0) at
+    ∙ getD-append-add (f k) (joined (table f (suc k) d)) (j * B + r) 0
+    ∙ joined-byte f B j (suc k) d r (λ i a b. h i (omega arith) (omega arith)) (omega arith) m
+    ∙ ap (λ (i : ℕ). getD (f i) r 0) (omega arith)
+
+-- a file's blocks have room for its size
+need-enough : (B z : ℕ) → 0 < B → z ≤ need B z * B
+unfolding need
+need-enough B z pos = omega (arith, div-add-mod' (z + (B - 1)) B, mod-lt (z + (B - 1)) pos)
+
+-- "A file's content is the first size bytes of its listed blocks in order"
+pub content-joined : (B : ℕ) → BlockSize B → (img : List ℕ) → Consistent B img → (s : ℕ) → File B (view B img) s → content B (view B img) img s ≡ take (size (view B img) s) (joined (table (λ k. block B img (number (view B img) s k)) 0 (need B (size (view B img) s))))
+unfolding place
+content-joined B sz img ok s file =
+    ext-getD 0 (content B v img s) (take (size v s) all) (length-content B v img s ∙ sym long)
+    (λ p h.
+    let l : p < size v s = subst (λ (n : ℕ). p < n) (length-content B v img s) h in
+    content-byte B v img s p l
+    ∙ byte-at B img (number v s (p / B)) (p % B) (in-block B pos p)
+    ∙ ap (λ (k : ℕ). getD (f k) (p % B) 0) (sym (zero-add (p / B)))
+    ∙ sym (joined-byte f B (p / B) 0 (need B (size v s)) (p % B) whole (in-need B pos p (size v s) l) (in-block B pos p))
+    ∙ ap (λ (q : ℕ). getD all q 0) (div-add-mod' p B)
+    ∙ sym (getD-take (size v s) all p 0 l))
+  where
+    v : View
+    v = view B img
+
+    f : ℕ → List ℕ
+    f k = block B img (number v s k)
+
+    all : List ℕ
+    all = joined (table f 0 (need B (size v s)))
+
+    pos : 0 < B
+    pos = omega (arith, sz .large)
+
+    whole : (k : ℕ) → 0 ≤ k → k < 0 + need B (size v s) → length (f k) ≡ B
+    whole k a b =
+        length-block B img (number v s k)
+        (in-image B (number v s k) img (subst (λ (n : ℕ). number v s k < n) (view-n B img) (ok .sound .inside s k file (omega arith) .high)))
+
+    long : length (take (size v s) all) ≡ size v s
+    long =
+        length-take (size v s) all
+        ∙ omega (arith, length-joined f B 0 (need B (size v s)) whole, need-enough B (size v s) pos)
 
 -- what stands in a slot
 abbrev pub standing : ℕ → View → List ℕ → ℕ → Option (List ℕ)

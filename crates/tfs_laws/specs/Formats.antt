@@ -1,4 +1,4 @@
--- Format leaves a consistent volume with no file in it, and changes nothing past block 2.
+-- Format leaves a consistent volume with no file in it, in which every handle is refused, and changes nothing past block 2.
 use mathlib.Core.Path.{_≡_, refl, sym, ap, _∙_, subst}
 use mathlib.Core.Logic.{inl, inr, ⊎-elim}
 use mathlib.Core.Bool.{false, not, _&&_}
@@ -17,15 +17,17 @@ use Rattle.lists.specs.Part.{part, getD-part}
 use Rattle.lists.specs.Word.{word, bytes4, word-bytes4}
 use Rattle.lists.specs.Bits.{bitOf}
 use Rattle.tfs_rules.specs.Layout.{BlockSize, slots, block, magic, volumeName, mapByte, mapBit, setBits, slot, slotFree, labelAllowed, sameName}
-use Rattle.tfs_rules.specs.View.{View, view, free, name, slotOf, contents}
+use Rattle.tfs_rules.specs.View.{View, view, free, inode, name, slotOf, slotWith, contents}
 use Rattle.tfs_rules.specs.Check.{tooShort}
 use Rattle.tfs_rules.specs.Consistent.{File, Sound, Consistent}
 use Rattle.tfs_rules.specs.Claims.{slotIn, owns-file}
+use Rattle.tfs_rules.specs.CheckMeans.{check-means}
 use Rattle.tfs_rules.specs.Requests.{done, granted, Outcome, store, storeAll, refuse, formatStores, format}
 use Rattle.tfs_facts.specs.Views.{view-head, view-map, view-dir}
 use Rattle.tfs_facts.specs.Stores.{Fits, length-storeAll, stored-first, fits-up, stored-past, stored-at}
 use Rattle.tfs_facts.specs.Entries.{length-pad, zeros-zero}
 use Rattle.tfs_laws.specs.Others.{stands-not}
+use Rattle.tfs_laws.specs.Handles.{HandleRefused, handle-refused}
 use Rattle.tfs_facts.specs.MapBits.{In, Mapped, length-setBits, bits-kept, bits-set}
 
 -- ---- zeros
@@ -123,6 +125,10 @@ module _ (B : ℕ) (v : View) (clear : (s : ℕ) → T (free v s)) where
   unfolding slotOf
   slotOf-empty nm = least-all (λ s. not (free v s) && sameName (name v s) nm) (slots B) (λ s l. no-and (not (free v s)) _ (yes-yes (free v s) (clear s)))
 
+  pub slotWith-empty : (h : ℕ) → slotWith B v h ≡ slots B
+  unfolding slotWith
+  slotWith-empty h = least-all (λ s. not (free v s) && eqb (inode v s) h) (slots B) (λ s l. no-and (not (free v s)) _ (yes-yes (free v s) (clear s)))
+
 -- format stores to blocks 0 to 2
 pub format-fits : (B : ℕ) → BlockSize B → (label : List ℕ) → Fits B (3 * B) (formatStores B label)
 unfolding formatStores
@@ -182,6 +188,11 @@ module _ (B : ℕ) (size : BlockSize B) (img label : List ℕ) (long : 3 * B ≤
   formatted-empty : (nm : List ℕ) → contents B formatted nm ≡ none
   formatted-empty nm = stands-not B formatted nm (omega (arith, slotOf-empty B (view B formatted) formatted-free nm))
 
+  formatted-handles : length label < 16 → (h : ℕ) → HandleRefused B formatted h
+  formatted-handles l h =
+      handle-refused B formatted (check-means B size formatted .1 (formatted-consistent l)) h
+      (omega (arith, slotWith-empty B (view B formatted) formatted-free h))
+
 -- ---- format, granted or refused
 -- what holds of each outcome that format can have
 pub by-format : (B : ℕ) (img label : List ℕ) (P : Outcome → Type 0) → (length img < 3 * B → P (refuse img 1)) → (T (not (labelAllowed label)) → P (refuse img 8)) → (3 * B ≤ length img → T (labelAllowed label) → P (record { answer = done; image = storeAll B img (formatStores B label) })) → P (format B img label)
@@ -217,6 +228,12 @@ module _ {B : ℕ} (size : BlockSize B) (img label : List ℕ) where
   format-empty =
       by-format B img label (λ o. T (granted (o .answer)) → (nm : List ℕ) → contents B (o .image) nm ≡ none) (λ _ g. absurd g) (λ _ g. absurd g)
       (λ h t _. formatted-empty B size img label h)
+
+  -- so read and write refuse every handle
+  pub format-handles : T (granted (format B img label .answer)) → (h : ℕ) → HandleRefused B (format B img label .image) h
+  format-handles =
+      by-format B img label (λ o. T (granted (o .answer)) → (h : ℕ) → HandleRefused B (o .image) h) (λ _ g. absurd g) (λ _ g. absurd g)
+      (λ k t _. formatted-handles B size img label k (label-short label t))
 
   -- "Later blocks are untouched", and so are the bytes past the last block
   pub format-past : (q : ℕ) → 3 * B ≤ q → getD (format B img label .image) q 0 ≡ getD img q 0

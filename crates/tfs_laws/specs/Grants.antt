@@ -1,27 +1,28 @@
 -- Which answer each request gives, in plain facts: one table for each request, with a line for each of its answers.
 -- Each table holds of an answer exactly when the request gives it. The check comes first, so the volume is consistent; of format it is any image.
 use mathlib.Core.Path.{_≡_, refl, sym, ap, _∙_, subst}
-use mathlib.Core.Logic.{_≢_, _↔_}
+use mathlib.Core.Logic.{_≢_, _↔_, ⊎-elim}
 use mathlib.Core.Bool.{Bool, true, false, not, cond}
 use Prim.Native.Nat.{ℕ, _+_, _-_, _*_, _≤_, _<_, min}
 use mathlib.Core.List.{List}
 use native.Mathlib.Omega.{arith}
 use native.Mathlib.Decide.{decLt}
-use lib.ListN.{length, getD}
-use lib.Seq.{getD-take}
+use lib.ListN.{length, getD, take}
+use lib.Seq.{length-take-le, getD-take}
 use lib.Arith.{le→nltb}
 use lib.Dec.{T, leb, ltb, leb→le, ltb→lt, nltb→le, le→leb, lt→ltb, eqb→eq, T-not, not-T}
 use Rattle.lists.specs.Test.{cond-yes, cond-no, and-of, and-l, and-r, not-not, yes-yes, no-false, to-true, eqb-of, neqb-of}
 use Rattle.lists.specs.Least.{least, least-hit, least-none, least-below, least-all}
 use Rattle.lists.specs.Name.{zeroAt, firstZero}
-use Rattle.tfs_rules.specs.Layout.{BlockSize, slots, maxSize, need, mapBit, labelAllowed, nameAllowed}
-use Rattle.tfs_rules.specs.View.{View, view, free, inode, name, size, slotOf, slotWith, freeSlot, freeBlocks}
+use Rattle.tfs_rules.specs.Layout.{BlockSize, slots, maxSize, need, mapBit, slot, nameField, labelAllowed, nameAllowed}
+use Rattle.tfs_rules.specs.View.{View, view, free, used, inode, name, size, slotOf, slotWith, freeSlot, freeBlocks}
 use Rattle.tfs_rules.specs.Check.{consistent, check, tooShort}
 use Rattle.tfs_rules.specs.Consistent.{File, Sound, Consistent}
 use Rattle.tfs_rules.specs.Claims.{count-some}
-use Rattle.tfs_rules.specs.CheckMeans.{check-means, same-means}
+use Rattle.tfs_rules.specs.CheckMeans.{check-means, same-means, length-field, used-means, name-means}
 use Rattle.tfs_rules.specs.Room.{free-cursor}
 use Rattle.tfs_rules.specs.Requests.{Answer, done, value, unused, file, refused, granted, Outcome, refuse, openView, openAnswer, freeFrom, chosen, createView, create, removeView, remove, counted, transferView, read, write, listView, listAnswer, format}
+use Rattle.tfs_facts.specs.Views.{length-dir}
 use Rattle.tfs_facts.specs.Names.{slot-hit, slot-miss, slot-is, handle-hit, handle-is, free-hit}
 use Rattle.tfs_laws.specs.Changes.{create-is, remove-is}
 use Rattle.tfs_laws.specs.Handles.{read-answer, write-answer}
@@ -416,6 +417,26 @@ grants B sz img ok =
           iff-at (write B img h o buf .answer) (transferView B v h o (length buf)) a _ (write-answer B img passed h o buf) (transfer-rule B v (ok .sound) h o (length buf) a);
       on-list = λ s a. iff-at (listAnswer B img s) (listView B v s) a _ (rw passed) (list-rule B v s a);
     }
+
+-- every name that stands is one that requests take
+pub stands-named : (B : ℕ) (img : List ℕ) → Consistent B img → (nm : List ℕ) (s : ℕ) → Stands B (view B img) nm s → NameRule nm
+stands-named B img ok nm s st =
+    let v : View = view B img in
+    let low : s < slots B = st .file .slot in
+    let dir : length (v .dir) ≡ B = length-dir B img (ok .long) in
+    let f : List ℕ = nameField (slot (v .dir) s) in
+    let field : length f ≡ 16 = length-field B v s dir low in
+    let formed : T (used v s) = ⊎-elim (λ t. absurd (T-not (free v s) (st .file .taken) t)) (λ t. t) (ok .sound .formed s low) in
+    let k = used-means B v s dir low .0 formed .1 in
+    let e : take (k .0) f ≡ nm = sym (name-means B v s dir low (k .0) (k .1)) ∙ st .named in
+    let l : length (take (k .0) f) ≡ k .0 = length-take-le (k .0) f (omega (arith, field, k .1 .short)) in
+    subst NameRule e
+    (omega (arith, l, k .1 .some), (omega (arith, l, k .1 .short), λ i h z. k .1 .bytes i (omega arith) (sym (getD-take (k .0) f i 0 (omega arith)) ∙ z)))
+
+-- so a remove of it is granted
+pub stands-removed : (B : ℕ) → BlockSize B → (img : List ℕ) → Consistent B img → (nm : List ℕ) (s : ℕ) → Stands B (view B img) nm s → T (granted (remove B img nm .answer))
+stands-removed B sz img ok nm s st =
+    subst (λ (a : Answer). T (granted a)) (sym (grants B sz img ok .on-remove nm done .1 (found s (stands-named B img ok nm s st) st))) tt
 
 -- create is granted exactly when all five tests are passed
 pub record CreateGranted (B : ℕ) (v : View) (nm : List ℕ) (z : ℕ) : Type 0 where

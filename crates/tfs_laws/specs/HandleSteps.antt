@@ -1,5 +1,5 @@
--- Handles over any number of requests: one that means a file means it until the file is removed,
--- and one that means no file means none until a create answers it.
+-- Handles over any number of requests out of create, remove and write: one that means a file means it until the file is removed,
+-- and one that means no file means none until a create answers it. After a format every handle is refused: Formats.antt.
 use mathlib.Core.Path.{_≡_, refl, sym, ap, _∙_, subst}
 use mathlib.Core.Logic.{_≢_, _↔_}
 use Prim.Native.Nat.{ℕ, _≤_, _<_}
@@ -20,7 +20,7 @@ use Rattle.tfs_laws.specs.Creates as made
 use Rattle.tfs_laws.specs.Removes as removed
 use Rattle.tfs_laws.specs.Changes.{Change, creates, removes, writes, perform, Passed, create-granted, create-image, remove-granted, remove-image, refused-keeps, stays-consistent}
 use Rattle.tfs_laws.specs.Handles.{Means, removed-none, created-none, created-handle}
-use Rattle.tfs_laws.specs.Grants.{Stands, stands-hit, stands-at, Handled, handled-hit, handled-at, handled-low, unhandled-high, CreateRule, unnamed, oversized, standing, full, cramped, created, grants}
+use Rattle.tfs_laws.specs.Grants.{Stands, stands-hit, stands-at, stands-removed, Handled, handled-hit, handled-at, handled-low, unhandled-high, CreateRule, unnamed, oversized, standing, full, cramped, created, grants}
 
 -- ---- what a handle means, in plain facts
 -- h is the inode number of the file that has the name nm
@@ -43,7 +43,7 @@ means-file B v ok h nm = (
       ),
 )
 
--- ---- one request
+-- ---- one request out of create, remove and write
 -- c is a granted remove of nm
 abbrev pub RemovesName : ℕ → List ℕ → List ℕ → Change → Type 0
 RemovesName B img nm c = (c ≡ removes nm) × T (granted (perform B img c .answer))
@@ -127,9 +127,10 @@ module _ (B : ℕ) (sz : BlockSize B) (img : List ℕ) (ok : Consistent B img) w
       (λ r. subst (λ (x : List ℕ). MeansNone B (view B x) h) (sym (refused-keeps B img c r)) none)
 
   -- the handle of a removed file means none
-  step-gone : (h : ℕ) (nm : List ℕ) → MeansFile B v h nm → T (granted (remove B img nm .answer)) → MeansNone B (view B (remove B img nm .image)) h
+  step-gone : (h : ℕ) (nm : List ℕ) → MeansFile B v h nm → MeansNone B (view B (remove B img nm .image)) h
   unfolding perform
-  step-gone h nm w g =
+  step-gone h nm w =
+      let g : T (granted (remove B img nm .answer)) = stands-removed B sz img ok nm (w .0) (w .1) in
       let at : slotOf B v nm ≡ w .0 = stands-at B v nm (ok .sound) (w .0) (w .1) in
       let high : slots B ≤ slotWith B (view B (remove B img nm .image)) h =
       subst (λ (x : ℕ). slots B ≤ slotWith B (view B (remove B img nm .image)) x) (ap (inode v) at ∙ w .2) (removed-none B sz img ok nm g)
@@ -142,11 +143,11 @@ module _ (B : ℕ) (sz : BlockSize B) (img : List ℕ) (ok : Consistent B img) w
   step-new nm z h e =
       means-file B (view B (create B img nm z .image)) (stays-consistent B sz img ok (creates nm z) .sound) h nm .0 (created-handle B sz img ok nm z h e)
 
--- one request, granted or refused
+-- one request out of create, remove and write, granted or refused
 pub record StepLaw (B : ℕ) (img : List ℕ) : Type 0 where
   -- a handle that means a file means it after any request but the file's remove, and none after that
   pub file : (c : Change) (h : ℕ) (nm : List ℕ) → MeansFile B (view B img) h nm → (RemovesName B img nm c → ⊥) → MeansFile B (view B (perform B img c .image)) h nm
-  pub gone : (h : ℕ) (nm : List ℕ) → MeansFile B (view B img) h nm → T (granted (remove B img nm .answer)) → MeansNone B (view B (remove B img nm .image)) h
+  pub gone : (h : ℕ) (nm : List ℕ) → MeansFile B (view B img) h nm → MeansNone B (view B (remove B img nm .image)) h
   -- one that means no file means none after any request but a create that answers it, and the created file after that
   pub none : (c : Change) (h : ℕ) → MeansNone B (view B img) h → (GivesHandle B img h c → ⊥) → MeansNone B (view B (perform B img c .image)) h
   pub new : (nm : List ℕ) (z h : ℕ) → create B img nm z .answer ≡ value h → MeansFile B (view B (create B img nm z .image)) h nm
@@ -155,7 +156,7 @@ pub step-law : (B : ℕ) → BlockSize B → (img : List ℕ) → Consistent B i
 step-law B sz img ok =
     record { file = step-file B sz img ok; gone = step-gone B sz img ok; none = step-none B sz img ok; new = step-new B sz img ok }
 
--- ---- any number of requests, refused ones included
+-- ---- any number of requests out of create, remove and write, refused ones included
 -- "each request gets the image the last one left"
 unfoldable pub afterAll : ℕ → List ℕ → List Change → List ℕ
 afterAll B img [] = img

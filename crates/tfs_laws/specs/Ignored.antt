@@ -1,4 +1,4 @@
--- What the rules ignore has no say: the rest of block 0, map bits from N on, the bytes of block 2 behind the slots.
+-- What the rules ignore has no say: the rest of block 0, map bits from N on, the bytes of block 2 behind the slots, the bytes past the last block.
 use mathlib.Core.Path.{_≡_, refl, sym, ap, ap₂, _∙_, subst}
 use mathlib.Core.Bool.{Bool, not, cond, _&&_, _||_, Bool·beq}
 use Prim.Native.Nat.{ℕ, zero, suc, _+_, _-_, _*_, _/_, _%_, _≤_, _<_, min}
@@ -7,7 +7,7 @@ use native.Mathlib.Omega.{arith}
 use native.Mathlib.Nat.{zero-add}
 use lib.ListN.{length, getD, take, drop, length-take, length-drop}
 use lib.Dec.{leb, ltb, eqb, leb→le, ltb→lt}
-use Rattle.lists.specs.Test.{by-test, cond-yes, cond-no, and-l}
+use Rattle.lists.specs.Test.{by-test, cond-yes, cond-no, and-l, and-r}
 use Rattle.lists.specs.Least.{least, least-cong}
 use Rattle.lists.specs.Sum.{sum, sum-cong}
 use Rattle.lists.specs.Name.{firstZero}
@@ -25,14 +25,15 @@ use Rattle.tfs_facts.specs.Sizes.{in-block}
 use Rattle.tfs_laws.specs.Places.{blocks-eq, position}
 use Rattle.tfs_facts.specs.Stores.{block-byte}
 
--- two images that differ at most in what the rules ignore
+-- two images of one length that differ at most in what the rules ignore
 pub record SameRead (B : ℕ) (a b : List ℕ) : Type 0 where
   pub long : length a ≡ length b
   -- magic and volume name
   pub head : part 0 20 (block B a 0) ≡ part 0 20 (block B b 0)
   pub bits : (i : ℕ) → i < blocks B a → mapBit (block B a 1) i ≡ mapBit (block B b 1) i
   pub slots-same : (t : ℕ) → t < slots B → slot (block B a 2) t ≡ slot (block B b 2) t
-  pub rest : (i : ℕ) → 3 ≤ i → block B a i ≡ block B b i
+  -- the blocks from 3 to N − 1
+  pub rest : (i : ℕ) → 3 ≤ i → i < blocks B a → block B a i ≡ block B b i
 
 -- two views that differ at most so
 pub record Alike (B : ℕ) (v w : View) : Type 0 where
@@ -205,13 +206,18 @@ module _ (B : ℕ) (size-ok : BlockSize B) (a b : List ℕ) (same : SameRead B a
       ∙ ap (min B) (length-drop (i * B) a ∙ ap (λ (n : ℕ). n - i * B) (same .long) ∙ sym (length-drop (i * B) b))
       ∙ sym (length-take B (drop (i * B) b))
 
+  n-alike : blocks B a ≡ blocks B b
+  n-alike = blocks-eq B a b (same .long)
+
   inode-at-alike : (s : ℕ) → s < slots B → inodeAt B (blocks B a) a s ≡ inodeAt B (blocks B b) b s
   unfolding inodeAt
   inode-at-alike s h =
       let i : ℕ = slotInode (slot (block B b 2) s) in
-      ap₂ (λ (m : ℕ) (x : List ℕ). cond (inRange m (slotInode x)) (block B a (slotInode x)) []) (blocks-eq B a b (same .long)) (same .slots-same s h)
+      ap₂ (λ (m : ℕ) (x : List ℕ). cond (inRange m (slotInode x)) (block B a (slotInode x)) []) n-alike (same .slots-same s h)
       ∙ by-test (inRange (blocks B b) i)
-      (λ t. ap (λ (x : List ℕ). cond (inRange (blocks B b) i) x []) (same .rest i (leb→le 3 i (and-l (leb 3 i) _ t))))
+      (λ t.
+      ap (λ (x : List ℕ). cond (inRange (blocks B b) i) x [])
+      (same .rest i (leb→le 3 i (and-l (leb 3 i) _ t)) (omega (arith, n-alike, ltb→lt i (blocks B b) (and-r (leb 3 i) _ t)))))
       (λ t. cond-no {X = List ℕ} (inRange (blocks B b) i) (block B a i) [] t ∙ sym (cond-no {X = List ℕ} (inRange (blocks B b) i) (block B b i) [] t))
 
   inodes-same : view B a .inodes ≡ view B b .inodes
@@ -222,7 +228,7 @@ module _ (B : ℕ) (size-ok : BlockSize B) (a b : List ℕ) (same : SameRead B a
   pub alike : Alike B (view B a) (view B b)
   alike =
       record {
-        n = view-n B a ∙ blocks-eq B a b (same .long) ∙ sym (view-n B b);
+        n = view-n B a ∙ n-alike ∙ sym (view-n B b);
         magic-word =
             (ap (λ (x : List ℕ). word x 0) (view-head B a)
             ∙ word-cong (block B a 0) (block B b 0) 0 0 (λ j h. head-byte (0 + j) (omega arith))
@@ -290,7 +296,7 @@ read-alike B size-ok a b same al ch h o buf =
         (λ p l u.
         let c : Inside w (number w s (p / B)) = position B (omega (arith, size-ok .large)) b ok s p (omega arith) in
         ap (λ (k : ℕ). getD a (k * B + p % B) 0) (number-alike B v w al s (p / B))
-        ∙ block-byte B a b (number w s (p / B)) (p % B) (in-block B (omega (arith, size-ok .large)) p) (same .rest (number w s (p / B)) (c .low))))
+        ∙ block-byte B a b (number w s (p / B)) (p % B) (in-block B (omega (arith, size-ok .large)) p) (same .rest (number w s (p / B)) (c .low) (omega (arith, c .high, view-n B b, blocks-eq B a b (same .long))))))
 
     go : (x : Verdict) → check B b ≡ x → checkedFilled x buf (record { answer = transferView B v h o (length buf); buffer = cond (granted (transferView B v h o (length buf))) (readBuffer B v a (slotWith B v h) o buf) buf }) ≡ checkedFilled x buf (record { answer = transferView B w h o (length buf); buffer = cond (granted (transferView B w h o (length buf))) (readBuffer B w b (slotWith B w h) o buf) buf })
     go consistent e = λ i.

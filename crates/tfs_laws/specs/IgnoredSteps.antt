@@ -106,8 +106,8 @@ module _ (B : ℕ) (sz : BlockSize B) (a b : List ℕ) (same : SameRead B a b) (
         ∙ same .slots-same t h
         ∙ sym (slot-kept s t (block B nb 2) (block B b 2) (dir-long B nb b (okb .long) lb) d q)
 
-    block-after : (i : ℕ) → 3 ≤ i → ((r : ℕ) → r < B → getD na (i * B + r) 0 ≡ getD a (i * B + r) 0) → ((r : ℕ) → r < B → getD nb (i * B + r) 0 ≡ getD b (i * B + r) 0) → block B na i ≡ block B nb i
-    block-after i h p q = block-ext B na a i la p ∙ same .rest i h ∙ sym (block-ext B nb b i lb q)
+    block-after : (i : ℕ) → 3 ≤ i → i < blocks B na → ((r : ℕ) → r < B → getD na (i * B + r) 0 ≡ getD a (i * B + r) 0) → ((r : ℕ) → r < B → getD nb (i * B + r) 0 ≡ getD b (i * B + r) 0) → block B na i ≡ block B nb i
+    block-after i h m p q = block-ext B na a i la p ∙ same .rest i h (low i m) ∙ sym (block-ext B nb b i lb q)
 
     past : (i r : ℕ) → 3 ≤ i → 3 * B ≤ i * B + r
     past i r h = omega (arith, mul-le-mul-right {m = 3} {n = i} B h)
@@ -125,10 +125,10 @@ module _ (B : ℕ) (sz : BlockSize B) (a b : List ℕ) (same : SameRead B a b) (
                 | yes e ↦ subst (λ (x : ℕ). slot (block B na 2) x ≡ slot (block B nb 2) x) (sym e) (ta .entry ∙ sym (tb .entry))
                 | no d ↦ slot-after s t l d (ta .entries) (tb .entries)
               ];
-          rest = λ i l.
+          rest = λ i l m.
               elim (in-dec i cs) [
-                | yes p ↦ let m = in-at cs i p in subst (λ (x : ℕ). block B na x ≡ block B nb x) (m .2) (own (m .0) (m .1))
-                | no d ↦ block-after i l (λ r k. ta .bytes (i * B + r) (inr (past i r l)) (λ p. d (inside i r k p))) (λ r k. tb .bytes (i * B + r) (inr (past i r l)) (λ p. d (inside i r k p)))
+                | yes p ↦ let c = in-at cs i p in subst (λ (x : ℕ). block B na x ≡ block B nb x) (c .2) (own (c .0) (c .1))
+                | no d ↦ block-after i l m (λ r k. ta .bytes (i * B + r) (inr (past i r l)) (λ p. d (inside i r k p))) (λ r k. tb .bytes (i * B + r) (inr (past i r l)) (λ p. d (inside i r k p)))
               ];
         }
       where
@@ -157,7 +157,7 @@ module _ (B : ℕ) (sz : BlockSize B) (a b : List ℕ) (same : SameRead B a b) (
                 | yes e ↦ subst (λ (x : ℕ). slot (block B na 2) x ≡ slot (block B nb 2) x) (sym e) zeroed
                 | no d ↦ slot-after s t l d (ta .entries) (tb .entries)
               ];
-          rest = λ i l. block-after i l (λ r k. ta .bytes (i * B + r) (inr (past i r l))) (λ r k. tb .bytes (i * B + r) (inr (past i r l)));
+          rest = λ i l m. block-after i l m (λ r k. ta .bytes (i * B + r) (inr (past i r l))) (λ r k. tb .bytes (i * B + r) (inr (past i r l)));
         }
       where
         zeroed : slot (block B na 2) s ≡ slot (block B nb 2) s
@@ -192,10 +192,10 @@ module _ (B : ℕ) (sz : BlockSize B) (a b : List ℕ) (same : SameRead B a b) (
       stb = subst (Stands B w nm) (sym (slot-of-alike B v w al nm)) (stands-hit B w nm (remove-granted B b (check-means B sz b .1 okb) nm gb))
 
       ta : RemoveTouch B a (remove B a nm .image) s
-      ta = remove-touches B sz a oka nm s sta ga
+      ta = remove-touches B sz a oka nm s sta
 
       tb : RemoveTouch B b (remove B b nm .image) s
-      tb = remove-touches B sz b okb nm s stb gb
+      tb = remove-touches B sz b okb nm s stb
 
       to : (i : ℕ) → BlockOf B v s i → BlockOf B w s i
       to i o =
@@ -228,11 +228,11 @@ module _ (B : ℕ) (sz : BlockSize B) (a b : List ℕ) (same : SameRead B a b) (
             (ap (λ (d : List ℕ). slot d t) (sym (view-dir B na) ∙ ap (λ (x : View). x .dir) va ∙ view-dir B a)
             ∙ same .slots-same t l
             ∙ sym (ap (λ (d : List ℕ). slot d t) (sym (view-dir B nb) ∙ ap (λ (x : View). x .dir) vb ∙ view-dir B b)));
-        rest = λ i l.
+        rest = λ i l m.
             block-ext B na nb i (la ∙ same .long ∙ sym lb)
             (λ r k.
             ap (λ (x : List ℕ). getD x (i * B + r) 0) (request-image B a pa (wr h o bs) ∙ write-moves a h o bs)
-            ∙ store-same (place B w (slotWith B w h)) (take (size w (slotWith B w h) - o) bs) a b o (i * B + r) (same .long) (block-byte B a b i r k (same .rest i l))
+            ∙ store-same (place B w (slotWith B w h)) (take (size w (slotWith B w h) - o) bs) a b o (i * B + r) (same .long) (block-byte B a b i r k (same .rest i l (subst (λ (n : ℕ). i < n) (blocks-eq B na a la) m)))
             ∙ sym (ap (λ (x : List ℕ). getD x (i * B + r) 0) (request-image B b pb (wr h o bs))));
       }
     where

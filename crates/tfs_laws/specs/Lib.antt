@@ -19,6 +19,7 @@ pub mod Kept
 pub mod Tail
 pub mod Ignored
 pub mod Grants
+pub mod Answers
 pub mod Touches
 pub mod Rooms
 pub mod HandleSteps

@@ -1,4 +1,4 @@
--- Room: a granted remove frees the blocks of the file at once, a granted create takes its own, and a write takes none.
+-- Room: a remove of a name that stands frees the blocks of the file at once, a granted create takes its own, and a write takes none.
 use mathlib.Core.Path.{_≡_, refl, sym, ap, ap₂, _∙_, subst}
 use mathlib.Core.Logic.{_≢_}
 use mathlib.Core.Bool.{Bool, not, cond}
@@ -21,7 +21,7 @@ use Rattle.tfs_facts.specs.Chosen.{CreateGrant}
 use Rattle.tfs_laws.specs.Creates as made
 use Rattle.tfs_laws.specs.Removes as removed
 use Rattle.tfs_laws.specs.Changes.{Passed, create-granted, create-image, remove-granted, remove-image}
-use Rattle.tfs_laws.specs.Grants.{Stands, stands-at}
+use Rattle.tfs_laws.specs.Grants.{Stands, stands-at, stands-removed}
 
 -- two views that differ in slot s only: a has a file there, b has none
 module _ (B : ℕ) (a b : View) (s : ℕ) (low : s < slots B) (taken : T (not (free a s))) (clear : T (free b s)) (frees : (t : ℕ) → t < slots B → t ≢ s → free b t ≡ free a t) (sizes : (t : ℕ) → t < slots B → t ≢ s → size b t ≡ size a t) where
@@ -46,8 +46,8 @@ module _ (B : ℕ) (sz : BlockSize B) (img : List ℕ) (ok : Consistent B img) w
   passed = check-means B sz img .1 ok
 
   -- "Room freed by remove counts for 12 at once"
-  pub removed-room : (nm : List ℕ) (s : ℕ) → Stands B (view B img) nm s → T (granted (remove B img nm .answer)) → freeBlocks (view B (remove B img nm .image)) ≡ freeBlocks (view B img) + (1 + need B (size (view B img) s))
-  removed-room nm s st g =
+  pub removed-room : (nm : List ℕ) (s : ℕ) → Stands B (view B img) nm s → freeBlocks (view B (remove B img nm .image)) ≡ freeBlocks (view B img) + (1 + need B (size (view B img) s))
+  removed-room nm s st =
       ap (λ (x : List ℕ). freeBlocks (view B x)) (remove-image B img passed nm g) ∙ subst room (stands-at B v nm (ok .sound) s st) differ
     where
       v : View
@@ -58,6 +58,9 @@ module _ (B : ℕ) (sz : BlockSize B) (img : List ℕ) (ok : Consistent B img) w
 
       room : ℕ → Type 0
       room t = freeBlocks (view B new) ≡ freeBlocks v + (1 + need B (size v t))
+
+      g : T (granted (remove B img nm .answer))
+      g = stands-removed B sz img ok nm s st
 
       hit : slotOf B v nm < slots B
       hit = remove-granted B img passed nm g

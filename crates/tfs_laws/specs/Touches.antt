@@ -33,7 +33,7 @@ use Rattle.tfs_laws.specs.Creates as made
 use Rattle.tfs_laws.specs.Removes as removed
 use Rattle.tfs_laws.specs.Changes.{Passed, create-granted, create-image, remove-granted, remove-image}
 use Rattle.tfs_laws.specs.Handles.{answered}
-use Rattle.tfs_laws.specs.Grants.{Stands, stands-at, Vacant, vacant-hit}
+use Rattle.tfs_laws.specs.Grants.{Stands, stands-at, stands-removed, Vacant, vacant-hit}
 
 -- ---- bytes by their block
 -- bytes outside blocks 1 and 2
@@ -130,9 +130,10 @@ module _ (B : ℕ) (sz : BlockSize B) (img : List ℕ) (ok : Consistent B img) w
           long = removed.frame B sz img ok nm hit .long;
         }
 
-  -- a granted remove does this to the file that has the name, and no more
-  pub remove-touches : (nm : List ℕ) (s : ℕ) → Stands B (view B img) nm s → T (granted (remove B img nm .answer)) → RemoveTouch B img (remove B img nm .image) s
-  remove-touches nm s st g =
+  -- a remove of a name that stands does this to the file that has it, and no more
+  pub remove-touches : (nm : List ℕ) (s : ℕ) → Stands B (view B img) nm s → RemoveTouch B img (remove B img nm .image) s
+  remove-touches nm s st =
+      let g : T (granted (remove B img nm .answer)) = stands-removed B sz img ok nm s st in
       let hit : slotOf B (view B img) nm < slots B = remove-granted B img passed nm g in
       let at : slotOf B (view B img) nm ≡ s = stands-at B (view B img) nm (ok .sound) s st in
       subst (λ (x : List ℕ). RemoveTouch B img x s) (sym (remove-image B img passed nm g))
