@@ -11,7 +11,7 @@ use Rattle.lists.specs.Word.{word, bytes4, words}
 use Rattle.lists.specs.Bits.{bitOf, withBit}
 use Rattle.lists.specs.Part.{part, withPart}
 
--- block sizes for which the laws hold: 512, the smallest block size there is, or larger, and whole 32-bit words
+-- block sizes for which the laws hold: 512 or larger, and whole 32-bit words
 pub record BlockSize (B : ℕ) : Type 0 where
   pub large : 512 ≤ B
   pub whole : B % 4 ≡ 0
