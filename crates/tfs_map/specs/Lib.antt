@@ -1,3 +1,4 @@
 pub mod Under
 pub mod Bits
 pub mod Free
+pub mod Compare

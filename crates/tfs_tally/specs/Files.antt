@@ -62,6 +62,9 @@ module _ (img : List ℕ) (s : ℕ) (below : s < 25) (none : least (badSlot (vie
   inside = slot-inside (view 512 img) s (no-false (badSlot (view 512 img) s) (least-none (badSlot (view 512 img)) 25 (omega arith) s below)) taken
 
   -- the inode's number, and its block in the image
+  pub inode-over : 3 ≤ inode (view 512 img) s
+  inode-over = inside .low
+
   pub inode-under : inode (view 512 img) s < blocks 512 img
   inode-under = omega (arith, inside .high, view-n 512 img)
 

@@ -1,4 +1,4 @@
--- `tally_slot` meets its contract.
+-- `claim_slot` meets its contract.
 use mathlib.Core.Path.{_≡_, sym, ap, _∙_}
 use mathlib.Core.List.{List, _++_}
 use Prim.Native.Nat.{ℕ, _+_, _*_, _-_, _≤_}
@@ -6,18 +6,20 @@ use native.Mathlib.Omega.{arith}
 use native.Mathlib.Nat.{add-sub-cancel-left}
 use lib.ListN.{length, take, drop, replicate, length-take, length-drop}
 use denote.Ref.{now}
-use Rattle.tfs_rules.specs.Layout.{need, inodeSize}
+use Rattle.tfs_rules.specs.Layout.{setBits, need, inodeSize}
 use Rattle.tfs_rules.specs.View.{view}
-use Rattle.tfs_inode.specs.Claims.{claimList, tallied}
-use Rattle.tfs_tally.specs.Claimed.{Held, held, held-none, claims-front, claims-room}
+use Rattle.tfs_inode.specs.Claims.{claimList, doubled}
+use Rattle.tfs_tally.specs.Claimed.{Held, held, none-marked, none-doubled, claims-front, claims-room}
 use borrow.Author.Needs.{needs}
-use Rattle.tfs_tally.proofs.claims.tally_slot.Statement.{statement}
-use Rattle.tfs_tally.proofs.claims.tally_slot.Tie as tie
+use Rattle.tfs_tally.proofs.claims.claim_slot.Statement.{statement}
+use Rattle.tfs_tally.proofs.claims.claim_slot.Tie as tie
 
 returns : tie.Need-returns
 returns c =
     let args = c .before .before .before .args in
-    held-none (view 512 (now (args .image))) (args .s) (now (args .counts)) (sym (c .before .is-free .ensures) ∙ c .if1 .taken)
+    let empty = sym (c .before .is-free .ensures) ∙ c .if1 .taken in
+    let v = view 512 (now (args .image)) in
+    (none-marked v (args .s) (now (args .owned)) empty, none-doubled v (args .s) (now (args .owned)) empty (args .low))
 
 -- the file of the slot, and the block of its inode
 abbrev inodeOf : tie.After-inode-in → List ℕ
@@ -50,17 +52,18 @@ front c =
     let called = c .before .before .before in
     rw (listed c) (claims-front (called .inode-in .result) (inodeOf called) _ (c .blocks-of .result) (counted c))
 
-tally-requires : tie.Need-tally-requires
-tally-requires c κs = rw (front (c .before .before .before)) (file (c .before .before .before .before .before .before) .under)
+claim-all-requires : tie.Need-claim-all-requires
+claim-all-requires c κs = rw (front (c .before .before .before)) (λ i h. file (c .before .before .before .before .before .before) .within i h .1)
 
 returns-2 : tie.Need-returns-2
 returns-2 c =
     let called = c .before .before .before .before in
-    let counts = now (called .before .before .before .before .before .before .before .args .counts) in
-    c .tally .ensures ∙ ap (tallied counts) (front called ∙ sym (file (called .before .before .before) .claimed))
+    let args = called .before .before .before .before .before .before .before .args in
+    let same = front called ∙ sym (file (called .before .before .before) .claimed) in
+    (c .claim-all .ensures .0 ∙ ap (setBits (now (args .owned)) 1) same, c .claim-all .ensures .1 ∙ ap (λ (l : List ℕ). doubled (now (args .owned)) l (args .low)) same)
 
-pub tally-slot-spec : {M : Type 1} → statement M
-tally-slot-spec =
+pub claim-slot-spec : {M : Type 1} → statement M
+claim-slot-spec =
     tie.close
     (tie.spec
     (λ c κs. search needs)
@@ -76,5 +79,5 @@ tally-slot-spec =
     (λ c. search needs)
     (λ c. search needs)
     (λ c. omega (arith, room (c .before .before)))
-    tally-requires
+    claim-all-requires
     returns-2)
