@@ -66,7 +66,7 @@ pub claim-slot-spec : {M : Type 1} → statement M
 claim-slot-spec =
     tie.close
     (tie.spec
-    (λ c κs. search needs)
+    (λ c κs. (record { long = c .before .pre .0 .long; slots = c .before .pre .0 .slots }, search needs))
     returns
     (λ c κs. search needs)
     (λ c. search needs)
