@@ -46,18 +46,21 @@ fn lower(twice: bool, b: usize, low: usize) -> usize
     low
 }
 
-// Claims each of the blocks in the map; and the lowest of low and those that were claimed already.
-pub fn claim_all(owned: &mut [u8; 512], blocks: &[u32], low: usize) -> usize
-    requires { ⌜ Under 4096 (now blocks) ⌝ }
-    ensures { λ r. ⌜ (now (owned .exit) ≡ setBits (now (owned .entry)) 1 (now (blocks .entry))) × (r ≡ doubled (now (owned .entry)) (now (blocks .entry)) low) ⌝ }
+// Claims the blocks of a file in the map; and the lowest of low and those that were claimed already.
+pub fn claim_file(inode: u32, ino: &[u8], owned: &mut [u8; 512], low: usize) -> usize
+    requires { ⌜ (length (now ino) ≡ 512) × (need 512 (inodeSize (now ino)) ≤ 127) × Under 4096 (claimList inode (now ino)) ⌝ }
+    ensures { λ r. ⌜ (now (owned .exit) ≡ setBits (now (owned .entry)) 1 (claimList inode (now (ino .entry)))) × (r ≡ doubled (now (owned .entry)) (claimList inode (now (ino .entry))) low) ⌝ }
 {
-    let mut least = low;
-    let mut i = 0;
-    while i < blocks.len() {
-        let b = blocks[i] as usize;
+    let count = blocks_needed(inode_size(ino));
+    let own = inode as usize;
+    let first = claim(owned, own);
+    let mut least = lower(first, own, low);
+    let mut k = 0;
+    while k < count {
+        let b = inode_number(ino, k) as usize;
         let twice = claim(owned, b);
         least = lower(twice, b, least);
-        i += 1;
+        k += 1;
     }
     least
 }

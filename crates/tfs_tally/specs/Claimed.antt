@@ -1,26 +1,18 @@
 -- The claims of the files in a volume whose slots and inodes are right, slot by slot.
 use mathlib.Core.Path.{_≡_, refl, sym, ap, _∙_}
 use mathlib.Core.Bool.{Bool, true, false}
-use Prim.Native.Nat.{ℕ, zero, suc, _+_, _*_, _-_, _≤_, _<_}
+use Prim.Native.Nat.{ℕ, zero, suc, _+_, _*_, _≤_, _<_}
 use native.Mathlib.Numerals.{add-one}
 use native.Mathlib.Omega.{arith}
 use mathlib.Core.List.{List, [], _∷_, _++_}
-use lib.ListN.{length, take, drop, length-append}
-use lib.Seq.{take-at}
+use lib.ListN.{length, take, drop}
 use Rattle.tfs_rules.specs.Layout.{blocks, setBits, need, inodeSize}
 use Rattle.tfs_rules.specs.View.{View, view, free, inode}
 use Rattle.tfs_rules.specs.Check.{fileClaims, claimsTo, claims}
 use Rattle.tfs_map.specs.Bits.{bits-append}
-use Rattle.tfs_inode.specs.Claims.{Within, claimList, length-claims, file-claims, claims-within, doubled, doubled-none, doubled-append}
+use Rattle.tfs_inode.specs.Claims.{Within, claimList, file-claims, claims-within, doubled, doubled-none, doubled-append}
 use Rattle.tfs_inode.specs.Wrong.{inodeWrong, right-need}
 use Rattle.tfs_tally.specs.Files.{Sized, blocks-le, inode-over, inode-under, inode-fits, right-at, claims-at}
-
--- the claims at the front of a list
-pub claims-front : (b : ℕ) (ino rest : List ℕ) (k : ℕ) → k ≡ 1 + need 512 (inodeSize ino) → take (k - 0) (drop 0 (claimList b ino ++ rest)) ≡ claimList b ino
-claims-front b ino rest k e = take-at (claimList b ino) rest (k - 0) (length-claims b ino ∙ omega arith)
-
-pub claims-room : (b : ℕ) (ino rest : List ℕ) → 1 + need 512 (inodeSize ino) ≤ length (claimList b ino ++ rest)
-claims-room b ino rest = omega (arith, length-append (claimList b ino) rest, length-claims b ino)
 
 -- ---- the file in slot s, whose inode is in block b
 pub record Held (img : List ℕ) (s b : ℕ) : Type 0 where

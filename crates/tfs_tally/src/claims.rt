@@ -8,8 +8,7 @@ ghost use Rattle.tfs_inode.specs.Claims.{doubled};
 ghost use Rattle.tfs_tally.specs.Files.{Sized};
 use crate::files::inode_in;
 use crate::files::is_free;
-use tfs_inode::claims::blocks_of;
-use tfs_inode::claims::claim_all;
+use tfs_inode::claims::claim_file;
 
 // Claims the blocks of the file in slot s; and the lowest of low and those that were claimed already.
 fn claim_slot(image: &[u8], s: usize, owned: &mut [u8; 512], low: usize) -> usize
@@ -23,9 +22,7 @@ fn claim_slot(image: &[u8], s: usize, owned: &mut [u8; 512], low: usize) -> usiz
     let b = number as usize;
     let a = b * 512;
     let e = a + 512;
-    let mut list = [0u32; 128];
-    let count = blocks_of(number, &image[a..e], &mut list);
-    claim_all(owned, &list[0..count], low)
+    claim_file(number, &image[a..e], owned, low)
 }
 
 // Claims the blocks of each file; and the lowest of n and those that were claimed already.
