@@ -6,7 +6,7 @@ ghost use Rattle.lists.specs.Test.{allZero};
 ghost use Rattle.lists.specs.Word.{wordOf, word, bytes4};
 ghost use Rattle.lists.specs.Part.{withPart};
 ghost use Rattle.lists.specs.Least.{least};
-ghost use Rattle.spans.specs.Alike.{fourSame, wordSame, wordDiffers};
+ghost use Rattle.spans.specs.Alike.{fourSame, wordIs, wordSame, wordDiffers};
 
 // The word of four bytes, the first the most significant.
 pub fn word_of(a: u8, b: u8, c: u8, d: u8) -> u32
@@ -59,6 +59,15 @@ fn four_same(a: u8, b: u8, c: u8, d: u8, e: u8, f: u8, g: u8, h: u8) -> bool
     ensures { λ r. ⌜ r ≡ fourSame a b c d e f g h ⌝ }
 {
     word_of(a, b, c, d) == word_of(e, f, g, h)
+}
+
+// Whether each byte of word k is v.
+pub fn word_is(p: &[u8], k: usize, v: u8) -> bool
+    requires { ⌜ 4 * k + 4 ≤ length (now p) ⌝ }
+    ensures { λ r. ⌜ r ≡ wordIs (now (p .entry)) k v ⌝ }
+{
+    let at = 4 * k;
+    four_same(p[at], p[at + 1], p[at + 2], p[at + 3], v, v, v, v)
 }
 
 // Whether word k is the same in p and q.
