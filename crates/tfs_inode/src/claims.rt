@@ -6,6 +6,7 @@ ghost use lib.ListN.{length, drop};
 ghost use Rattle.tfs_rules.specs.Layout.{setBits, need, inodeSize};
 ghost use Rattle.tfs_map.specs.Under.{Under};
 ghost use Rattle.tfs_inode.specs.Claims.{claimList, lowerOf, doubled};
+use crate::read::block_number;
 use crate::read::blocks_needed;
 use crate::read::inode_number;
 use crate::read::inode_size;
@@ -57,7 +58,7 @@ pub fn claim_file(inode: u32, ino: &[u8], owned: &mut [u8; 512], low: usize) -> 
     let mut least = lower(first, own, low);
     let mut k = 0;
     while k < count {
-        let b = inode_number(ino, k) as usize;
+        let b = block_number(ino, k);
         let twice = claim(owned, b);
         least = lower(twice, b, least);
         k += 1;

@@ -4,7 +4,7 @@ use Prim.Native.Nat.{ℕ, _-_, _≤_, _<_}
 use native.Mathlib.Omega.{arith}
 use mathlib.Core.List.{List}
 use denote.Ref.{now}
-use Rattle.tfs_rules.specs.Layout.{setBits, need, inodeSize}
+use Rattle.tfs_rules.specs.Layout.{setBits, need, inodeSize, inodeNumber}
 use Rattle.tfs_inode.specs.Claims.{numbersTo, doubled, claim-own, claim-number, marked-none, twice-none, marked-next, twice-next, marked-all, twice-all}
 use borrow.Author.Needs.{needs}
 use Rattle.tfs_inode.proofs.claims.claim_file.Statement.{statement}
@@ -28,23 +28,23 @@ loop-holds c =
     (search needs, called .blocks-needed .ensures ∙ ap (need 512) (called .before .inode-size .ensures), marked-none _ ino, twice-none _ ino _)
 
 -- the block read is below 4096
-small : (c : tie.After-inode-number Inv-loop μ-loop) → c .inode-number .result < 4096
+small : (c : tie.In-loop Inv-loop μ-loop) → inodeNumber (now (c .before .before .before .before .before .before .before .before .args .ino)) (c .before .loop .k) < 4096
 small c =
-    let start = c .before .before .before .before .before .before .before .before .before in
-    let at-loop = c .before .before .loop in
-    rw (c .inode-number .ensures) (claim-number 4096 (start .args .inode) (now (start .args .ino)) (at-loop .k) (start .pre .2) (omega arith))
+    let start = c .before .before .before .before .before .before .before .before in
+    let at-loop = c .before .loop in
+    claim-number 4096 (start .args .inode) (now (start .args .ino)) (at-loop .k) (start .pre .2) (omega arith)
 
-cast-b : tie.Need-cast-b Inv-loop μ-loop
-cast-b c = omega (arith, small c)
+block-number-requires : tie.Need-block-number-requires Inv-loop μ-loop
+block-number-requires c κs = (search needs, search needs, small c)
 
 claim-requires-2 : tie.Need-claim-requires-2 Inv-loop μ-loop
-claim-requires-2 c κs = small (c .before)
+claim-requires-2 c κs = rw (c .before .block-number .ensures) (small (c .before .before))
 
 loop-again : tie.Need-loop-again Inv-loop μ-loop
 loop-again c =
     let at-loop = c .before .before .before .before .before .loop in
     let ino = now (c .before .before .before .before .before .before .before .before .before .before .before .before .args .ino) in
-    let read = c .before .before .before .inode-number .ensures in
+    let read = c .before .before .before .block-number .ensures in
     let call = c .before .claim2 .ensures in (
       search needs,
       at-loop .inv .1,
@@ -75,8 +75,7 @@ claim-file-spec =
     claim-requires
     (λ c κs. search needs)
     loop-holds
-    (λ c κs. search needs)
-    cast-b
+    block-number-requires
     claim-requires-2
     (λ c κs. search needs)
     (λ c. search needs)
