@@ -3,3 +3,4 @@ pub mod Zeros
 pub mod Same
 pub mod Copy
 pub mod Masks
+pub mod Alike

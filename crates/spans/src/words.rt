@@ -1,9 +1,12 @@
 // Big-endian 32-bit words.
 ghost use mathlib.Core.Path.{_≡_};
-ghost use Prim.Native.Nat.{_+_, _≤_};
+ghost use Prim.Native.Nat.{_+_, _*_, _≤_};
 ghost use lib.ListN.{length};
+ghost use Rattle.lists.specs.Test.{allZero};
 ghost use Rattle.lists.specs.Word.{wordOf, word, bytes4};
 ghost use Rattle.lists.specs.Part.{withPart};
+ghost use Rattle.lists.specs.Least.{least};
+ghost use Rattle.spans.specs.Alike.{fourSame, wordIs, wordSame, wordDiffers};
 
 // The word of four bytes, the first the most significant.
 pub fn word_of(a: u8, b: u8, c: u8, d: u8) -> u32
@@ -29,4 +32,73 @@ pub fn put32(p: &mut [u8], at: usize, v: u32)
     p[at + 1] = (v / 256 / 256 % 256) as u8;
     p[at + 2] = (v / 256 % 256) as u8;
     p[at + 3] = (v % 256) as u8;
+}
+
+// Whether five words are zero.
+pub fn five_zero(p: &[u8]) -> bool
+    requires { ⌜ length (now p) ≡ 20 ⌝ }
+    ensures { λ r. ⌜ r ≡ allZero (now (p .entry)) ⌝ }
+{
+    if be32(p, 0) != 0 {
+        return false;
+    }
+    if be32(p, 4) != 0 {
+        return false;
+    }
+    if be32(p, 8) != 0 {
+        return false;
+    }
+    if be32(p, 12) != 0 {
+        return false;
+    }
+    be32(p, 16) == 0
+}
+
+// Whether four bytes are the same as four others.
+fn four_same(a: u8, b: u8, c: u8, d: u8, e: u8, f: u8, g: u8, h: u8) -> bool
+    ensures { λ r. ⌜ r ≡ fourSame a b c d e f g h ⌝ }
+{
+    word_of(a, b, c, d) == word_of(e, f, g, h)
+}
+
+// Whether each byte of word k is v.
+pub fn word_is(p: &[u8], k: usize, v: u8) -> bool
+    requires { ⌜ 4 * k + 4 ≤ length (now p) ⌝ }
+    ensures { λ r. ⌜ r ≡ wordIs (now (p .entry)) k v ⌝ }
+{
+    let at = 4 * k;
+    four_same(p[at], p[at + 1], p[at + 2], p[at + 3], v, v, v, v)
+}
+
+// Whether word k is the same in p and q.
+pub fn word_same(p: &[u8], q: &[u8], k: usize) -> bool
+    requires { ⌜ (4 * k + 4 ≤ length (now p)) × (4 * k + 4 ≤ length (now q)) ⌝ }
+    ensures { λ r. ⌜ r ≡ wordSame (now (p .entry)) (now (q .entry)) k ⌝ }
+{
+    let at = 4 * k;
+    four_same(
+        p[at],
+        p[at + 1],
+        p[at + 2],
+        p[at + 3],
+        q[at],
+        q[at + 1],
+        q[at + 2],
+        q[at + 3],
+    )
+}
+
+// The first of n words that is not the same in p and q, or n.
+pub fn same_words(p: &[u8], q: &[u8], n: usize) -> usize
+    requires { ⌜ (4 * n ≤ length (now p)) × (4 * n ≤ length (now q)) ⌝ }
+    ensures { λ r. ⌜ r ≡ least (wordDiffers (now (p .entry)) (now (q .entry))) n ⌝ }
+{
+    let mut k = 0;
+    while k < n {
+        if !word_same(p, q, k) {
+            return k;
+        }
+        k += 1;
+    }
+    n
 }

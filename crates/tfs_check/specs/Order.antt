@@ -1,21 +1,24 @@
 -- The rules in their order.
 use mathlib.Core.Path.{_≡_, refl, sym, ap, _∙_}
 use mathlib.Core.Bool.{Bool, cond}
-use Prim.Native.Nat.{ℕ, _≤_, _<_}
+use Prim.Native.Nat.{ℕ, _≤_}
 use mathlib.Core.List.{List}
-use lib.ListN.{length, getD, take, drop, getD-replicate}
+use lib.ListN.{length, take, drop, set}
 use lib.Dec.{ltb}
+use Rattle.lists.specs.Bits.{withBit}
 use Rattle.lists.specs.Least.{least}
 use Rattle.lists.specs.Name.{zeros}
 use Rattle.lists.specs.Part.{part}
-use Rattle.tfs_rules.specs.Layout.{blocks, block}
+use Rattle.tfs_rules.specs.Layout.{blocks, block, setBit, setBits}
 use Rattle.tfs_rules.specs.View.{View, view, viewN}
 use Rattle.tfs_rules.specs.Check.{Verdict, consistent, broken, found, tooShort, badMagic, badLabel, badSlot, badInode, claims, claimedTwice, badBit, checkView, check}
 use Rattle.tfs_dir.specs.Find.{slotBad, first-bad}
-use Rattle.tfs_inode.specs.Claims.{tallied, Tallied}
+use Rattle.tfs_facts.specs.FreshMap.{formatMap}
+use Rattle.tfs_map.specs.Compare.{bitDiffers}
+use Rattle.tfs_inode.specs.Claims.{doubled}
 use Rattle.tfs_tally.specs.Files.{Sized}
-use Rattle.tfs_tally.specs.Claimed.{claims-tallied}
-use Rattle.tfs_tally.specs.Counts.{twiceIn, bitOff, twice-same, off-same}
+use Rattle.tfs_tally.specs.Claimed.{claims-all-within}
+use Rattle.tfs_tally.specs.Owned.{doubled-is, differs-is}
 
 -- rules 6 and 7
 unfoldable pub blocksVerdict : ℕ → View → Verdict
@@ -41,21 +44,15 @@ pub slots-at : (img : List ℕ) (n : ℕ) → n ≡ blocks 512 img → least (sl
 unfolding view viewN block part
 slots-at img n e = ap (λ (k : ℕ). least (slotBad k (take 512 (drop 1024 img))) 25) e ∙ sym (first-bad (view 512 img))
 
--- rules 6 and 7 from counts that started at 0
-none-counted : (k : ℕ) → k < 4096 → getD (zeros 4096) k 0 ≡ 0
-none-counted k h = getD-replicate {A = ℕ} 4096 k 0 0 h
+-- rules 6 and 7 from claims in the map that format makes
+pub start-map : set (zeros 512) 3 7 ≡ formatMap 512
+unfolding setBit withBit
+start-map = refl
 
-all-counted : (img : List ℕ) → Sized img → Tallied (tallied (zeros 4096) (claims 512 (view 512 img))) (claims 512 (view 512 img))
-all-counted img w = claims-tallied img (zeros 4096) w refl none-counted
+module _ (img : List ℕ) (w : Sized img) (n : ℕ) where
+  pub twice-at : doubled (set (zeros 512) 3 7) (claims 512 (view 512 img)) n ≡ least (claimedTwice (claims 512 (view 512 img))) n
+  twice-at = rw start-map (doubled-is (claims 512 (view 512 img)) (claims-all-within img w) n)
 
-module _ (img : List ℕ) (w : Sized img) (n : ℕ) (small : n ≤ 4096) where
-  pub twice-at : least (twiceIn (tallied (zeros 4096) (claims 512 (view 512 img)))) n ≡ least (claimedTwice (claims 512 (view 512 img))) n
-  twice-at =
-      let cs : List ℕ = claims 512 (view 512 img) in
-      twice-same (tallied (zeros 4096) cs) cs (all-counted img w) n small
-
-  pub bits-at : least (bitOff (take 512 (drop 512 img)) (tallied (zeros 4096) (claims 512 (view 512 img)))) n ≡ least (badBit (view 512 img) (claims 512 (view 512 img))) n
+  pub bits-at : n ≤ 4096 → least (bitDiffers (take 512 (drop 512 img)) (setBits (set (zeros 512) 3 7) 1 (claims 512 (view 512 img)))) n ≡ least (badBit (view 512 img) (claims 512 (view 512 img))) n
   unfolding view viewN block part
-  bits-at =
-      let cs : List ℕ = claims 512 (view 512 img) in
-      off-same (tallied (zeros 4096) cs) cs (all-counted img w) n small (view 512 img)
+  bits-at small = rw start-map (differs-is (claims 512 (view 512 img)) (claims-all-within img w) n small (view 512 img))

@@ -12,9 +12,8 @@ use crate::volume::blocks;
 use crate::volume::label_wrong;
 use crate::volume::magic_wrong;
 use tfs_dir::find::first_bad_slot;
-use tfs_tally::claims::first_bad_bit;
-use tfs_tally::claims::first_twice;
-use tfs_tally::claims::tally_files;
+use tfs_map::compare::first_difference;
+use tfs_tally::claims::claim_files;
 use tfs_tally::files::first_bad_inode;
 
 // What is wrong with a volume: the rule's number, and the slot or the block at fault.
@@ -32,18 +31,18 @@ pub enum Checked {
     Refused(Fault),
 }
 
-// Rules 6 and 7 of a volume of n blocks that breaks no earlier rule.
+// Rules 6 and 7 of a volume of n blocks that breaks no earlier rule: the claimed blocks get a map of their own, in which blocks 0 to 2 are marked.
 fn check_blocks(image: &[u8], n: usize) -> Checked
     requires { ⌜ Sized (now image) × (n ≤ 4096) ⌝ }
     ensures { λ r. ⌜ (checkedTold r ≡ blocksVerdict n (view 512 (now (image .entry)))) × CheckedFits r ⌝ }
 {
-    let mut counts = [0u8; 4096];
-    tally_files(image, &mut counts);
-    let twice = first_twice(&counts, n);
+    let mut owned = [0u8; 512];
+    owned[3] = 7;
+    let twice = claim_files(image, &mut owned, n);
     if twice < n {
         return Checked::Refused(Fault::Block(6, twice as u32));
     }
-    let bit = first_bad_bit(&image[512..1024], &counts, n);
+    let bit = first_difference(&image[512..1024], &owned, n);
     if bit < n {
         return Checked::Refused(Fault::Block(7, bit as u32));
     }

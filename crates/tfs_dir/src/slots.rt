@@ -6,10 +6,10 @@ ghost use Rattle.lists.specs.Name.{padTo};
 ghost use Rattle.tfs_rules.specs.Layout.{slot, slotFree, slotInode, slotUsed, slotName, sameName};
 use crate::names::name_formed;
 use spans::copy::copy;
-use spans::search::all_zero;
 use spans::search::first_zero;
 use spans::search::same;
 use spans::words::be32;
+use spans::words::five_zero;
 
 // Whether slot s is free.
 pub fn slot_free(dir: &[u8], s: usize) -> bool
@@ -18,7 +18,7 @@ pub fn slot_free(dir: &[u8], s: usize) -> bool
 {
     let a = s * 20;
     let e = a + 20;
-    all_zero(&dir[a..e])
+    five_zero(&dir[a..e])
 }
 
 // The inode number in slot s.

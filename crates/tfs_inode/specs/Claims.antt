@@ -1,20 +1,17 @@
--- The blocks of a file, and how often each block is claimed.
+-- The blocks of a file, and their claims.
 use mathlib.Core.Path.{_≡_, refl, sym, ap, _∙_}
-use mathlib.Core.Bool.{false, cond}
-use Prim.Native.Nat.{ℕ, zero, suc, _+_, _<_, min}
+use mathlib.Core.Bool.{Bool, false, cond}
+use Prim.Native.Nat.{ℕ, zero, suc, _+_, _≤_, _<_, min}
 use native.Mathlib.Numerals.{add-one}
 use native.Mathlib.Omega.{arith}
-use native.Mathlib.Decide.{ℕ-discrete}
-use mathlib.Core.List.{List, [], _∷_, _++_, append-nil, append-assoc}
+use mathlib.Core.List.{List, [], _∷_, _++_}
 use lib.ListN.{length, getD, take, drop, set, length-set}
-use lib.Seq.{take-suc, drop-cons, drop-set-lt, append-snoc, set-at, getD-set-same, getD-set-other}
-use lib.Dec.{eqb}
-use Rattle.lists.specs.Sum.{one-no, one-yes}
+use lib.Seq.{take-suc, drop-cons, drop-set-lt, append-snoc, set-at}
 use Rattle.lists.specs.Table.{table, length-table, getD-table, table-more}
-use Rattle.tfs_rules.specs.Layout.{need, inodeSize, inodeNumber}
+use Rattle.tfs_rules.specs.Layout.{mapBit, setBit, setBits, need, inodeSize, inodeNumber}
 use Rattle.tfs_rules.specs.View.{View, free, inode, size, number}
-use Rattle.tfs_rules.specs.Check.{fileClaims, times}
-use Rattle.tfs_rules.specs.Claims.{times-append}
+use Rattle.tfs_rules.specs.Check.{fileClaims}
+use Rattle.tfs_map.specs.Bits.{bits-more}
 use Rattle.tfs_map.specs.Under.{Under}
 use Rattle.tfs_inode.specs.Wrong.{inodeWrong, right-number}
 
@@ -31,13 +28,16 @@ unfolding claimList
 length-claims b ino = omega (arith, length-table (inodeNumber ino) 0 (need 512 (inodeSize ino)))
 
 -- the blocks of an inode that is not wrong
-pub claims-under : (n b : ℕ) (ino : List ℕ) → b < n → inodeWrong 512 n ino ≡ false → Under n (claimList b ino)
+abbrev pub Within : ℕ → List ℕ → Type 0
+Within n l = (i : ℕ) → i < length l → (3 ≤ getD l i 0) × (getD l i 0 < n)
+
+pub claims-within : (n b : ℕ) (ino : List ℕ) → 3 ≤ b → b < n → inodeWrong 512 n ino ≡ false → Within n (claimList b ino)
 unfolding claimList
-claims-under n b ino h right zero l = h
-claims-under n b ino h right (suc i) l =
+claims-within n b ino low high right zero l = (low, high)
+claims-within n b ino low high right (suc i) l =
     let asked : i < need 512 (inodeSize ino) = omega (arith, length-table (inodeNumber ino) 0 (need 512 (inodeSize ino))) in
     let z : 0 + i ≡ i = omega arith in
-    rw (getD-table (inodeNumber ino) 0 (need 512 (inodeSize ino)) i 0 asked, z) (right-number n ino right i asked .1)
+    rw (getD-table (inodeNumber ino) 0 (need 512 (inodeSize ino)) i 0 asked, z) (right-number n ino right i asked)
 
 -- ---- one number more to the front of a list
 -- the first k numbers after the inode's own block
@@ -73,50 +73,75 @@ claimed-all b ino d k e =
     ap (λ (l : List ℕ). claimed b ino k ++ l) (drop-set-lt (1 + k) d 0 b (omega arith))
     ∙ ap (λ (n : ℕ). claimed b ino n ++ drop (1 + n) d) e
 
--- ---- how often a block is claimed, up to 2
-unfoldable pub marked : List ℕ → ℕ → List ℕ
-marked t b = set t b (min 2 (getD t b 0 + 1))
+-- ---- blocks claimed in a map that has a bit for each
+-- the lower of b and low where b is claimed twice, else low
+abbrev pub lowerOf : Bool → ℕ → ℕ → ℕ
+lowerOf twice b low = cond twice (min b low) low
 
-unfoldable pub tallied : List ℕ → List ℕ → List ℕ
-tallied t [] = t
-tallied t (b ∷ bs) = tallied (set t b (min 2 (getD t b 0 + 1))) bs
+-- the lowest of low and the blocks that are marked when their turn comes; each is marked then
+unfoldable pub doubled : List ℕ → List ℕ → ℕ → ℕ
+doubled map [] low = low
+doubled map (b ∷ bs) low = doubled (setBit map b 1) bs (lowerOf (mapBit map b) b low)
 
-pub length-tallied : (t bs : List ℕ) → length (tallied t bs) ≡ length t
-unfolding tallied
-length-tallied t [] = refl
-length-tallied t (b ∷ bs) = length-tallied (set t b (min 2 (getD t b 0 + 1))) bs ∙ length-set t b (min 2 (getD t b 0 + 1))
+pub doubled-none : (map : List ℕ) (low : ℕ) → doubled map [] low ≡ low
+unfolding doubled
+doubled-none map low = refl
 
-pub tallied-append : (t xs ys : List ℕ) → tallied t (xs ++ ys) ≡ tallied (tallied t xs) ys
-unfolding tallied
-tallied-append t [] ys = refl
-tallied-append t (x ∷ xs) ys = tallied-append (set t x (min 2 (getD t x 0 + 1))) xs ys
+pub doubled-next : (map : List ℕ) (b : ℕ) (bs : List ℕ) (low : ℕ) → doubled map (b ∷ bs) low ≡ doubled (setBit map b 1) bs (lowerOf (mapBit map b) b low)
+unfolding doubled
+doubled-next map b bs low = refl
 
-pub tallied-none : (t : List ℕ) → tallied t [] ≡ t
-unfolding tallied
-tallied-none t = refl
-
-pub tallied-take : (t bs : List ℕ) (i : ℕ) → i < length bs → tallied t (take (i + 1) bs) ≡ marked (tallied t (take i bs)) (getD bs i 0)
-unfolding tallied marked
-tallied-take t bs i h = rw (add-one i, take-suc bs i 0 h) (tallied-append t (take i bs) (getD bs i 0 ∷ []))
-
--- t has of each block how often it stands in a list, up to 2
-abbrev pub Tallied : List ℕ → List ℕ → Type 0
-Tallied t all = (k : ℕ) → k < 4096 → getD t k 0 ≡ min 2 (times k all)
+pub doubled-append : (map xs ys : List ℕ) (low : ℕ) → doubled map (xs ++ ys) low ≡ doubled (setBits map 1 xs) ys (doubled map xs low)
+unfolding doubled
+doubled-append map [] ys low = refl
+doubled-append map (x ∷ xs) ys low = doubled-append (setBit map x 1) xs ys (lowerOf (mapBit map x) x low)
 
 -- one block more
-pub mark-times : (t : List ℕ) (b : ℕ) (all : List ℕ) → Tallied t all → b < length t → b < 4096 → Tallied (set t b (min 2 (getD t b 0 + 1))) (all ++ (b ∷ []))
-mark-times t b all inv long small k l =
-    rw (times-append k all (b ∷ [])) (by (ℕ-discrete b k))
-  where
-    by : Dec (b ≡ k) → getD (set t b (min 2 (getD t b 0 + 1))) k 0 ≡ min 2 (times k all + (cond (eqb b k) 1 0 + 0))
-    by (yes e) = rw (one-yes b k e, ← e) (getD-set-same t b (min 2 (getD t b 0 + 1)) 0 long ∙ omega (arith, inv b small))
-    by (no e) = rw (one-no b k e) (getD-set-other t b k (min 2 (getD t b 0 + 1)) 0 (λ q. e (sym q)) ∙ omega (arith, inv k l))
+doubled-last : (map bs : List ℕ) (b low : ℕ) → doubled map (bs ++ (b ∷ [])) low ≡ lowerOf (mapBit (setBits map 1 bs) b) b (doubled map bs low)
+unfolding doubled
+doubled-last map bs b low = doubled-append map bs (b ∷ []) low
 
-pub tally-times : (t bs all : List ℕ) → ((k : ℕ) → k < 4096 → getD t k 0 ≡ min 2 (times k all)) → Under 4096 bs → length t ≡ 4096 → (k : ℕ) → k < 4096 → getD (tallied t bs) k 0 ≡ min 2 (times k (all ++ bs))
-unfolding tallied
-tally-times t [] all inv u long k l = rw append-nil (inv k l)
-tally-times t (b ∷ bs) all inv u long k l =
-    let small : b < 4096 = u 0 (omega arith) in
-    let more : all ++ (b ∷ bs) ≡ (all ++ (b ∷ [])) ++ bs = sym (append-assoc all (b ∷ []) bs) in
-    rw more
-    (tally-times (set t b (min 2 (getD t b 0 + 1))) bs (all ++ (b ∷ [])) (mark-times t b all inv (omega arith) small) (λ i h. u (suc i) (omega arith)) (length-set t b (min 2 (getD t b 0 + 1)) ∙ long) k l)
+-- ---- the claims of a file, number by number
+pub claim-own : (n b : ℕ) (ino : List ℕ) → Under n (claimList b ino) → b < n
+unfolding claimList
+claim-own n b ino u = u 0 (omega arith)
+
+pub claim-number : (n b : ℕ) (ino : List ℕ) (k : ℕ) → Under n (claimList b ino) → k < need 512 (inodeSize ino) → inodeNumber ino k < n
+unfolding claimList
+claim-number n b ino k u h =
+    let z : 0 + k ≡ k = omega arith in
+    rw (getD-table (inodeNumber ino) 0 (need 512 (inodeSize ino)) k 0 h, z) at (u (suc k) (omega (arith, length-claims b ino)))
+
+-- the first k numbers
+unfoldable pub numbersTo : List ℕ → ℕ → List ℕ
+numbersTo ino k = table (inodeNumber ino) 0 k
+
+numbers-next : (ino : List ℕ) (k : ℕ) → numbersTo ino (k + 1) ≡ numbersTo ino k ++ (inodeNumber ino k ∷ [])
+unfolding numbersTo
+numbers-next ino k =
+    let z : 0 + k ≡ k = omega arith in
+    ap (table (inodeNumber ino) 0) (add-one k) ∙ table-more (inodeNumber ino) 0 k ∙ ap (λ (n : ℕ). table (inodeNumber ino) 0 k ++ (inodeNumber ino n ∷ [])) z
+
+module _ (map ino : List ℕ) where
+  pub marked-none : map ≡ setBits map 1 (numbersTo ino 0)
+  unfolding numbersTo
+  marked-none = refl
+
+  pub twice-none : (low : ℕ) → low ≡ doubled map (numbersTo ino 0) low
+  unfolding numbersTo
+  twice-none low = sym (doubled-none map low)
+
+  pub marked-next : (k : ℕ) → setBit (setBits map 1 (numbersTo ino k)) (inodeNumber ino k) 1 ≡ setBits map 1 (numbersTo ino (k + 1))
+  marked-next k = sym (ap (setBits map 1) (numbers-next ino k) ∙ bits-more map 1 (numbersTo ino k) (inodeNumber ino k))
+
+  pub twice-next : (k low : ℕ) → lowerOf (mapBit (setBits map 1 (numbersTo ino k)) (inodeNumber ino k)) (inodeNumber ino k) (doubled map (numbersTo ino k) low) ≡ doubled map (numbersTo ino (k + 1)) low
+  twice-next k low = sym (ap (λ (l : List ℕ). doubled map l low) (numbers-next ino k) ∙ doubled-last map (numbersTo ino k) (inodeNumber ino k) low)
+
+  -- and the inode's own block before them
+  pub marked-all : (b k : ℕ) → k ≡ need 512 (inodeSize ino) → setBits (setBit map b 1) 1 (numbersTo ino k) ≡ setBits map 1 (claimList b ino)
+  unfolding numbersTo claimList
+  marked-all b k e = ap (λ (n : ℕ). setBits (setBit map b 1) 1 (table (inodeNumber ino) 0 n)) e
+
+  pub twice-all : (b k low : ℕ) → k ≡ need 512 (inodeSize ino) → doubled (setBit map b 1) (numbersTo ino k) (lowerOf (mapBit map b) b low) ≡ doubled map (claimList b ino) low
+  unfolding numbersTo claimList doubled
+  twice-all b k low e = ap (λ (n : ℕ). doubled (setBit map b 1) (table (inodeNumber ino) 0 n) (lowerOf (mapBit map b) b low)) e

@@ -1,14 +1,14 @@
 -- Rule 5 on one inode.
-use mathlib.Core.Path.{_≡_, refl}
+use mathlib.Core.Path.{_≡_, refl, sym, subst}
 use mathlib.Core.Bool.{Bool, true, false, not, cond, _&&_, _||_}
 use Prim.Native.Nat.{ℕ, _≤_, _<_}
 use native.Mathlib.Omega.{arith}
 use mathlib.Core.List.{List, []}
 use lib.ListN.{getD}
 use lib.Dec.{T, leb, ltb, eqb, leb→le, ltb→lt}
-use borrow.Author.Tests.{lt-ltb, ltb-false}
-use Rattle.lists.specs.Test.{not-not, and-l, and-r, or-no-l, or-no-r}
-use Rattle.lists.specs.Least.{least, least-none}
+use borrow.Author.Tests.{lt-ltb, le-ltb, ltb-false}
+use Rattle.lists.specs.Test.{not-not, no-false, and-l, and-r, or-no-l, or-no-r}
+use Rattle.lists.specs.Least.{Below, least, least-hit, least-below, least-is, least-none}
 use Rattle.tfs_rules.specs.Layout.{numbers, maxSize, need, inRange, inodeSize, inodeNumber}
 use Rattle.tfs_rules.specs.View.{View, free, size, number}
 use Rattle.tfs_rules.specs.Check.{badNumber, badInode}
@@ -36,6 +36,25 @@ wrong-found n ino k h e = rw (← e) (lt-ltb k 127 h)
 pub wrong-none : (n : ℕ) (ino : List ℕ) → 127 ≡ least (numberWrong 512 n ino) 127 → numbersWrong 512 n ino ≡ false
 unfolding numbersWrong
 wrong-none n ino e = rw (← e)
+
+-- the numbers that the size asks for, and those after them
+module _ (n : ℕ) (ino : List ℕ) (k : ℕ) where
+  pub listed-wrong : k < need 512 (inodeSize ino) → not (inRange n (inodeNumber ino k)) ≡ numberWrong 512 n ino k
+  unfolding numberWrong
+  listed-wrong h = rw (lt-ltb k (need 512 (inodeSize ino)) h)
+
+  pub rest-wrong : need 512 (inodeSize ino) ≤ k → not (eqb (inodeNumber ino k) 0) ≡ numberWrong 512 n ino k
+  unfolding numberWrong
+  rest-wrong h = rw (le-ltb k (need 512 (inodeSize ino)) h)
+
+  pub wrong-early : (count : ℕ) → count ≤ 127 → k ≡ least (numberWrong 512 n ino) count → k < count → numbersWrong 512 n ino ≡ true
+  wrong-early count few e h =
+      let at : T (numberWrong 512 n ino k) = subst (λ (i : ℕ). T (numberWrong 512 n ino i)) (sym e) (least-hit (numberWrong 512 n ino) count (omega arith)) in
+      wrong-found n ino k (omega arith)
+      (sym (least-is (numberWrong 512 n ino) 127 k (omega arith) at (λ i l. least-below (numberWrong 512 n ino) count i (omega arith))))
+
+pub listed-right : (n : ℕ) (ino : List ℕ) (count r : ℕ) → r ≡ least (numberWrong 512 n ino) count → count ≤ r → Below (numberWrong 512 n ino) count
+listed-right n ino count r e h i l = no-false (numberWrong 512 n ino i) (least-none (numberWrong 512 n ino) count (omega arith) i l)
 
 -- ---- what an inode that is not wrong says
 pub need-small : (size : ℕ) → size ≤ 65024 → need 512 size ≤ 127

@@ -1,6 +1,6 @@
 // The size and the numbers of an inode.
 ghost use mathlib.Core.Path.{_≡_};
-ghost use Prim.Native.Nat.{_<_};
+ghost use Prim.Native.Nat.{_+_, _*_, _<_};
 ghost use lib.ListN.{length};
 ghost use Rattle.tfs_rules.specs.Layout.{need, inodeSize, inodeNumber};
 use spans::words::be32;
@@ -19,6 +19,22 @@ pub fn inode_number(ino: &[u8], k: usize) -> u32
     ensures { λ r. ⌜ r ≡ inodeNumber (now (ino .entry)) k ⌝ }
 {
     be32(ino, 4 + 4 * k)
+}
+
+// The number of two bytes, the first the more significant.
+fn half_of(a: u8, b: u8) -> usize
+    ensures { λ r. ⌜ r ≡ a * 256 + b ⌝ }
+{
+    (a as usize) * 256 + b as usize
+}
+
+// Block number k where it is below 4,096, from its two low bytes.
+pub fn block_number(ino: &[u8], k: usize) -> usize
+    requires { ⌜ (length (now ino) ≡ 512) × (k < 127) × (inodeNumber (now ino) k < 4096) ⌝ }
+    ensures { λ r. ⌜ r ≡ inodeNumber (now (ino .entry)) k ⌝ }
+{
+    let at = 4 + 4 * k;
+    half_of(ino[at + 2], ino[at + 3])
 }
 
 // How many blocks hold `size` bytes.

@@ -1,7 +1,8 @@
 // Whether an inode breaks rule 5.
 ghost use mathlib.Core.Path.{_≡_};
-ghost use Prim.Native.Nat.{_≤_, _<_};
+ghost use Prim.Native.Nat.{_≤_};
 ghost use lib.ListN.{length};
+ghost use Rattle.lists.specs.Least.{least};
 ghost use Rattle.tfs_rules.specs.Layout.{need, inRange, inodeSize};
 ghost use Rattle.tfs_inode.specs.Wrong.{numberWrong, numbersWrong, inodeWrong};
 use crate::read::blocks_needed;
@@ -16,27 +17,34 @@ fn in_range(n: usize, b: u32) -> bool
     3 <= x && x < n
 }
 
-// Whether number k is wrong, where the size asks for `count` blocks.
-fn number_wrong(ino: &[u8], n: usize, count: usize, k: usize) -> bool
-    requires { ⌜ (length (now ino) ≡ 512) × (count ≡ need 512 (inodeSize (now ino))) × (k < 127) ⌝ }
-    ensures { λ r. ⌜ r ≡ numberWrong 512 n (now (ino .entry)) k ⌝ }
+// The first of the `count` numbers that the size asks for that is no block of a file, or `count`.
+fn first_outside(ino: &[u8], n: usize, count: usize) -> usize
+    requires { ⌜ (length (now ino) ≡ 512) × (count ≡ need 512 (inodeSize (now ino))) × (count ≤ 127) ⌝ }
+    ensures { λ r. ⌜ r ≡ least (numberWrong 512 n (now (ino .entry))) count ⌝ }
 {
-    let b = inode_number(ino, k);
-    if k < count {
-        return !in_range(n, b);
+    let mut k = 0;
+    while k < count {
+        if !in_range(n, inode_number(ino, k)) {
+            return k;
+        }
+        k += 1;
     }
-    b != 0
+    count
 }
 
-// Whether one of the 127 numbers is wrong.
+// Whether one of the 127 numbers is wrong: those that the size asks for, then the others.
 fn numbers_wrong(ino: &[u8], n: usize) -> bool
-    requires { ⌜ length (now ino) ≡ 512 ⌝ }
+    requires { ⌜ (length (now ino) ≡ 512) × (need 512 (inodeSize (now ino)) ≤ 127) ⌝ }
     ensures { λ r. ⌜ r ≡ numbersWrong 512 n (now (ino .entry)) ⌝ }
 {
     let count = blocks_needed(inode_size(ino));
-    let mut k = 0;
+    let listed = first_outside(ino, n, count);
+    if listed < count {
+        return true;
+    }
+    let mut k = count;
     while k < 127 {
-        if number_wrong(ino, n, count, k) {
+        if inode_number(ino, k) != 0 {
             return true;
         }
         k += 1;

@@ -1,22 +1,20 @@
 -- Format leaves a consistent volume with no file in it, in which every handle is refused, and changes nothing past block 2.
 use mathlib.Core.Path.{_≡_, refl, sym, ap, _∙_, subst}
-use mathlib.Core.Logic.{inl, inr, ⊎-elim}
-use mathlib.Core.Bool.{false, not, _&&_}
+use mathlib.Core.Logic.{inl, ⊎-elim}
+use mathlib.Core.Bool.{not, _&&_}
 use mathlib.Core.Option.{none}
-use Prim.Native.Nat.{ℕ, zero, suc, _+_, _-_, _*_, _%_, _≤_, _<_}
+use Prim.Native.Nat.{ℕ, zero, suc, _+_, _-_, _*_, _≤_, _<_}
 use mathlib.Core.List.{List, [], _∷_, _++_}
 use native.Mathlib.Omega.{arith}
-use native.Mathlib.Decide.{decLt}
 use lib.ListN.{length, getD, drop, length-take, length-replicate}
 use lib.Seq.{take-all, getD-append-add}
 use lib.Dec.{T, ltb, eqb, ltb→lt, nltb→le, T-not}
-use Rattle.lists.specs.Test.{zero-bytes, all-zero, by-test, cond-yes, cond-no, and-l, no-and, yes-yes, of-true}
+use Rattle.lists.specs.Test.{all-zero, by-test, cond-yes, cond-no, and-l, no-and, yes-yes}
 use Rattle.lists.specs.Least.{least-all}
 use Rattle.lists.specs.Name.{zeros, padTo}
 use Rattle.lists.specs.Part.{part, getD-part}
 use Rattle.lists.specs.Word.{word, bytes4, word-bytes4}
-use Rattle.lists.specs.Bits.{bitOf}
-use Rattle.tfs_rules.specs.Layout.{BlockSize, slots, block, magic, volumeName, mapByte, mapBit, setBits, slot, slotFree, labelAllowed, sameName}
+use Rattle.tfs_rules.specs.Layout.{BlockSize, slots, block, magic, volumeName, mapBit, setBits, slot, slotFree, labelAllowed, sameName}
 use Rattle.tfs_rules.specs.View.{View, view, free, inode, name, slotOf, slotWith, contents}
 use Rattle.tfs_rules.specs.Check.{tooShort}
 use Rattle.tfs_rules.specs.Consistent.{File, Sound, Consistent}
@@ -25,25 +23,13 @@ use Rattle.tfs_rules.specs.CheckMeans.{check-means}
 use Rattle.tfs_rules.specs.Requests.{done, granted, Outcome, store, storeAll, refuse, formatStores, format}
 use Rattle.tfs_facts.specs.Views.{view-head, view-map, view-dir}
 use Rattle.tfs_facts.specs.Stores.{Fits, length-storeAll, stored-first, fits-up, stored-past, stored-at}
-use Rattle.tfs_facts.specs.Entries.{length-pad, zeros-zero}
+use Rattle.tfs_facts.specs.Entries.{length-pad}
 use Rattle.tfs_laws.specs.Others.{stands-not}
 use Rattle.tfs_laws.specs.Handles.{HandleRefused, handle-refused}
-use Rattle.tfs_facts.specs.MapBits.{In, Mapped, length-setBits, bits-kept, bits-set}
+use Rattle.tfs_facts.specs.MapBits.{length-setBits}
+use Rattle.tfs_facts.specs.FreshMap.{zeros-byte, formatMap, marked-low, low-marked}
 
 -- ---- zeros
-zeros-byte : (n i : ℕ) → getD (zeros n) i 0 ≡ 0
-zeros-byte n i = zero-bytes (zeros n) (zeros-zero n) i
-
-zero-bit : (k : ℕ) → bitOf 0 k ≡ 0
-unfolding bitOf
-zero-bit zero = refl
-zero-bit (suc k) = zero-bit k
-
--- no block is marked in a map of zeros
-zeros-clear : (n b : ℕ) → mapBit (zeros n) b ≡ false
-unfolding mapBit
-zeros-clear n b = ap (λ (x : ℕ). eqb (bitOf x (b % 8)) 1) (zeros-byte n (mapByte b)) ∙ ap (λ (x : ℕ). eqb x 1) (zero-bit (b % 8))
-
 -- each slot of a directory of zeros is free
 zeros-free : (n s : ℕ) → T (slotFree (slot (zeros n) s))
 unfolding slotFree slot part
@@ -54,9 +40,6 @@ zeros-free n s =
 -- ---- what format stores
 abbrev formatHead : ℕ → List ℕ → List ℕ
 formatHead B label = bytes4 magic ++ padTo (B - 4) label
-
-abbrev formatMap : ℕ → List ℕ
-formatMap B = setBits (zeros B) 1 (0 ∷ 1 ∷ 2 ∷ [])
 
 -- the zero that ends the label
 head-end : (B : ℕ) (label : List ℕ) → 512 ≤ B → length label < 16 → getD (volumeName (formatHead B label)) (length label) 0 ≡ 0
@@ -73,30 +56,6 @@ head-end B label h l =
 
     last : length label ≡ length label + 0
     last = omega arith
-
--- the map marks blocks 0 to 2
-map-three : (B : ℕ) → 512 ≤ B → Mapped (length (zeros B)) (0 ∷ 1 ∷ 2 ∷ [])
-map-three B h = rw (length-replicate {A = ℕ}) (omega arith)
-
-three-in : (b : ℕ) → b < 3 → In b (0 ∷ 1 ∷ 2 ∷ [])
-three-in zero h = inl refl
-three-in (suc zero) h = inr (inl refl)
-three-in (suc (suc zero)) h = inr (inr (inl refl))
-three-in (suc (suc (suc b))) h = absurd (omega arith)
-
-in-three : (b : ℕ) → In b (0 ∷ 1 ∷ 2 ∷ []) → b < 3
-in-three b i = ⊎-elim (λ e. omega arith) (⊎-elim (λ e. omega arith) (⊎-elim (λ e. omega arith) (λ e. absurd e))) i
-
-marked-low : (B b : ℕ) → 512 ≤ B → b < 3 → T (mapBit (formatMap B) b)
-marked-low B b h l = of-true (mapBit (formatMap B) b) (bits-set 1 (omega arith) (0 ∷ 1 ∷ 2 ∷ []) (zeros B) (map-three B h) b (three-in b l))
-
-low-marked : (B b : ℕ) → 512 ≤ B → T (mapBit (formatMap B) b) → b < 3
-low-marked B b h t =
-    elim (decLt b 3) [
-      | yes l ↦ l
-      | no l ↦
-          absurd (subst T (bits-kept 1 (omega arith) (0 ∷ 1 ∷ 2 ∷ []) (zeros B) (map-three B h) b (λ i. l (in-three b i)) ∙ zeros-clear B b) t)
-    ]
 
 -- a label that is allowed leaves room for its zero
 label-short : (label : List ℕ) → T (labelAllowed label) → length label < 16

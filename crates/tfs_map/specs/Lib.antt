@@ -1,3 +1,5 @@
 pub mod Under
 pub mod Bits
 pub mod Free
+pub mod Compare
+pub mod Words

@@ -48,3 +48,13 @@ pub fn clear_bit(map: &mut [u8], b: usize)
     let at = map_byte(b);
     map[at] = with_zero(map[at], map_place(b));
 }
+
+// Makes bit b 1, and tells whether it was.
+pub fn claim(map: &mut [u8; 512], b: usize) -> bool
+    requires { ⌜ b < 4096 ⌝ }
+    ensures { λ r. ⌜ (r ≡ mapBit (now (map .entry)) b) × (now (map .exit) ≡ setBit (now (map .entry)) b 1) ⌝ }
+{
+    let was = map_bit(map, b);
+    set_bit(map, b);
+    was
+}

@@ -5,16 +5,17 @@ use Prim.Native.Nat.{ℕ, _+_, _*_, _≤_, _<_}
 use native.Mathlib.Omega.{arith}
 use mathlib.Core.List.{List, []}
 use lib.ListN.{length, getD, take, drop}
-use lib.Dec.{T, leb, ltb, leb→le, ltb→lt}
+use lib.Dec.{T, leb, ltb, eqb, leb→le, ltb→lt}
+use borrow.Author.Tests.{eq-eqb, ne-eqb}
 use Rattle.lists.specs.Test.{of-true, no-false, and-l, and-r}
 use Rattle.lists.specs.Least.{least, least-none}
 use Rattle.lists.specs.Part.{part}
-use Rattle.tfs_rules.specs.Layout.{blocks, block, slot, slotInode, slotFree, slotUsed, inRange, nameFormed, nameField}
+use Rattle.tfs_rules.specs.Layout.{blocks, block, slot, slotInode, slotUsed, inRange, nameFormed, nameField}
 use Rattle.tfs_rules.specs.View.{View, view, viewN, free, used, inode}
 use Rattle.tfs_rules.specs.Check.{repeats, badSlot, badInode, fileClaims}
 use Rattle.tfs_rules.specs.Consistent.{Inside}
 use Rattle.tfs_facts.specs.Sizes.{in-image}
-use Rattle.tfs_facts.specs.Views.{view-n, inode-block}
+use Rattle.tfs_facts.specs.Views.{view-n, inode-block, free-inode}
 use Rattle.tfs_inode.specs.Claims.{claimList, file-claims}
 use Rattle.tfs_inode.specs.Wrong.{inodeWrong, bad-inode}
 
@@ -34,10 +35,6 @@ unfolding blocks
 blocks-le img = omega arith
 
 -- ---- the directory as a part of the image
-pub free-at : (img : List ℕ) (s : ℕ) → slotFree (slot (take 512 (drop 1024 img)) s) ≡ free (view 512 img) s
-unfolding free view viewN block part
-free-at img s = refl
-
 pub inode-at : (img : List ℕ) (s : ℕ) → slotInode (slot (take 512 (drop 1024 img)) s) ≡ inode (view 512 img) s
 unfolding inode view viewN block part
 inode-at img s = refl
@@ -62,6 +59,9 @@ module _ (img : List ℕ) (s : ℕ) (below : s < 25) (none : least (badSlot (vie
   inside = slot-inside (view 512 img) s (no-false (badSlot (view 512 img) s) (least-none (badSlot (view 512 img)) 25 (omega arith) s below)) taken
 
   -- the inode's number, and its block in the image
+  pub inode-over : 3 ≤ inode (view 512 img) s
+  inode-over = inside .low
+
   pub inode-under : inode (view 512 img) s < blocks 512 img
   inode-under = omega (arith, inside .high, view-n 512 img)
 
@@ -90,3 +90,11 @@ module _ (img : List ℕ) (s : ℕ) (below : s < 25) (none : least (badSlot (vie
       file-claims v s
       ∙ ap (λ (f : Bool). cond f [] (claimList (inode v s) (getD (v .inodes) s []))) taken
       ∙ ap (claimList (inode v s)) inode-part
+
+-- a slot is free where its inode number is 0
+pub free-zero : (img : List ℕ) (s : ℕ) → Formed img → s < 25 → eqb (inode (view 512 img) s) 0 ≡ free (view 512 img) s
+free-zero img s w h = by (free (view 512 img) s) refl
+  where
+    by : (t : Bool) → free (view 512 img) s ≡ t → eqb (inode (view 512 img) s) 0 ≡ t
+    by true e = eq-eqb (inode (view 512 img) s) 0 (free-inode (view 512 img) s (of-true (free (view 512 img) s) e))
+    by false e = ne-eqb (inode (view 512 img) s) 0 (λ z. omega (arith, inode-over img s h (w .slots) e))

@@ -1,3 +1,3 @@
 pub mod Files
 pub mod Claimed
-pub mod Counts
+pub mod Owned

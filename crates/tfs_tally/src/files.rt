@@ -7,17 +7,8 @@ ghost use Rattle.tfs_rules.specs.Layout.{blocks};
 ghost use Rattle.tfs_rules.specs.View.{view, free, inode};
 ghost use Rattle.tfs_rules.specs.Check.{badInode};
 ghost use Rattle.tfs_tally.specs.Files.{Formed};
-use tfs_dir::slots::slot_free;
 use tfs_dir::slots::slot_inode;
 use tfs_inode::rule::inode_wrong;
-
-// Whether slot s is free.
-pub fn is_free(image: &[u8], s: usize) -> bool
-    requires { ⌜ (1536 ≤ length (now image)) × (s < 25) ⌝ }
-    ensures { λ r. ⌜ r ≡ free (view 512 (now (image .entry))) s ⌝ }
-{
-    slot_free(&image[1024..1536], s)
-}
 
 // The inode number in slot s.
 pub fn inode_in(image: &[u8], s: usize) -> u32
@@ -25,6 +16,14 @@ pub fn inode_in(image: &[u8], s: usize) -> u32
     ensures { λ r. ⌜ r ≡ inode (view 512 (now (image .entry))) s ⌝ }
 {
     slot_inode(&image[1024..1536], s)
+}
+
+// Whether slot s is free: in a volume that keeps rule 4 a used slot has an inode number over 2.
+pub fn is_free(image: &[u8], s: usize) -> bool
+    requires { ⌜ Formed (now image) × (s < 25) ⌝ }
+    ensures { λ r. ⌜ r ≡ free (view 512 (now (image .entry))) s ⌝ }
+{
+    inode_in(image, s) == 0
 }
 
 // Whether slot s breaks rule 5, in a volume of n blocks.

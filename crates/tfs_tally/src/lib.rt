@@ -1,3 +1,3 @@
-// The files of a volume, slot by slot: their inodes judged, their blocks counted and compared with the map.
+// The files of a volume, slot by slot: their inodes judged, their blocks claimed.
 pub mod files; // files.rt: the slots and the inodes
-pub mod claims; // claims.rt: the claims of all files, and the map
+pub mod claims; // claims.rt: the claims of all files

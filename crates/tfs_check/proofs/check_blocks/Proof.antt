@@ -11,18 +11,17 @@ use borrow.Author.Needs.{needs}
 use Rattle.tfs_check.proofs.check_blocks.Statement.{statement}
 use Rattle.tfs_check.proofs.check_blocks.Tie as tie
 
--- what the two searches found
-twice : (c : tie.After-first-twice) → c .first-twice .result ≡ least (claimedTwice (claims 512 (view 512 (now (c .before .before .before .before .before .args .image))))) (c .before .before .before .before .before .args .n)
+-- what was found of claims and of bits
+twice : (c : tie.After-claim-files) → c .claim-files .result ≡ least (claimedTwice (claims 512 (view 512 (now (c .before .before .before .args .image))))) (c .before .before .before .args .n)
 twice c =
-    let start = c .before .before .before .before .before in
-    rw (c .before .before .tally-files .ensures) at (c .first-twice .ensures)
-    ∙ twice-at (now (start .args .image)) (start .pre .0) (start .args .n) (start .pre .1)
+    let start = c .before .before .before in
+    c .claim-files .ensures .1 ∙ twice-at (now (start .args .image)) (start .pre .0) (start .args .n)
 
-bit : (c : tie.After-first-bad-bit) → c .first-bad-bit .result ≡ least (badBit (view 512 (now (c .before .before .before .before .before .before .before .before .before .args .image))) (claims 512 (view 512 (now (c .before .before .before .before .before .before .before .before .before .args .image))))) (c .before .before .before .before .before .before .before .before .before .args .n)
+bit : (c : tie.After-first-difference) → c .first-difference .result ≡ least (badBit (view 512 (now (c .before .before .before .before .before .before .before .args .image))) (claims 512 (view 512 (now (c .before .before .before .before .before .before .before .args .image))))) (c .before .before .before .before .before .before .before .args .n)
 bit c =
-    let found = c .before .before .before .before in
-    let start = found .before .before .before .before .before in
-    rw (found .before .before .tally-files .ensures) at (c .first-bad-bit .ensures)
+    let claimed = c .before .before .before .before in
+    let start = claimed .before .before .before in
+    rw (claimed .claim-files .ensures .0) at (c .first-difference .ensures)
     ∙ bits-at (now (start .args .image)) (start .pre .0) (start .args .n) (start .pre .1)
 
 returns : tie.Need-returns
@@ -45,7 +44,7 @@ pub check-blocks-spec : {M : Type 1} → statement M
 check-blocks-spec =
     tie.close
     (tie.spec
-    (λ c κs. search needs)
+    (λ c. search needs)
     (λ c κs. search needs)
     (λ c. search needs)
     returns

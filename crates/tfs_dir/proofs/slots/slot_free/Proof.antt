@@ -8,7 +8,7 @@ use Rattle.tfs_dir.proofs.slots.slot_free.Tie as tie
 
 returns : tie.Need-returns
 unfolding slotFree slot part
-returns c = simp add-sub-cancel-left at (c .all-zero .ensures)
+returns c = simp add-sub-cancel-left at (c .five-zero .ensures)
 
 pub slot-free-spec : {M : Type 1} → statement M
 slot-free-spec =

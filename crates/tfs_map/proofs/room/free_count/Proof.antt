@@ -1,43 +1,37 @@
--- `free_count` meets its contract: free is the count of the first b blocks.
+-- `free_count` meets its contract: free is the count of the first k words.
 use mathlib.Core.Path.{_≡_, sym, ap, _∙_}
-use mathlib.Core.Logic.{⊎-elim}
-use Prim.Native.Nat.{_-_, _≤_}
+use Prim.Native.Nat.{ℕ, _+_, _-_, _*_, _/_, _≤_}
 use native.Mathlib.Omega.{arith}
-use native.Mathlib.Nat.{le-antisymm}
 use denote.Ref.{now}
-use borrow.Author.Tests.{not-true, not-false}
-use Rattle.tfs_map.specs.Free.{freeBelow, free-none, free-held, free-more}
+use Rattle.tfs_map.specs.Free.{freeBelow, free-none}
 use borrow.Author.Needs.{needs}
 use Rattle.tfs_map.proofs.room.free_count.Statement.{statement}
 use Rattle.tfs_map.proofs.room.free_count.Tie as tie
 
 abbrev Inv-loop : tie.InvT-loop
-Inv-loop map n free₀ b₀ free b = (b ≤ n) × (free ≡ freeBelow map b) × (free ≤ b)
+Inv-loop map n words free₀ k₀ free k = (words ≡ n / 32) × (k ≤ words) × (free ≡ freeBelow map (32 * k)) × (free ≤ 32 * k)
 
 abbrev μ-loop : tie.MeasureT-loop
-μ-loop map n free₀ b₀ free b = n - b
+μ-loop map n words free₀ k₀ free k = words - k
 
 loop-holds : tie.Need-loop-holds Inv-loop μ-loop
-loop-holds c = (search needs, sym (free-none (now (c .before .args .map))), search needs)
+loop-holds c = (omega arith, search needs, sym (free-none (now (c .before .args .map))), search needs)
 
 loop-again : tie.Need-loop-again Inv-loop μ-loop
 loop-again c =
-    let at-loop = c .before .before .before .loop in
-    let map = now (c .before .before .before .before .before .args .map) in
-    let bit = c .before .map-bit .ensures in (
-      search needs,
-      ⊎-elim
-          (λ w. rw (w .1, free-more map (at-loop .b) (sym bit ∙ not-true _ (w .0 .taken)), at-loop .inv .1))
-          (λ w. rw (w .1, free-held map (at-loop .b) (sym bit ∙ not-false _ (w .0 .left))) (at-loop .inv .1))
-          (c .if1 .came),
-      ⊎-elim (λ w. omega arith) (λ w. omega arith) (c .if1 .came),
-    )
+    let at-loop = c .before .before .loop in
+    let map = now (c .before .before .before .before .args .map) in
+    let next : 32 * (at-loop .k + 1) ≡ 32 * at-loop .k + 32 = omega arith in
+    (at-loop .inv .0, search needs, rw (at-loop .inv .2, next) (c .free-word .ensures .0), omega arith)
 
 returns : tie.Need-returns Inv-loop μ-loop
 returns c =
-    let at-loop = c .before .loop in
-    let args = c .before .before .before .args in
-    (at-loop .inv .1 ∙ ap (freeBelow (now (args .map))) (le-antisymm (at-loop .inv .0) (c .loop-test .left)), search needs)
+    let at-loop = c .before .before .loop in
+    let args = c .before .before .before .before .args in
+    let map = now (args .map) in
+    let all : at-loop .k ≡ args .n / 32 = omega arith in
+    let whole : at-loop .free ≡ freeBelow map (32 * (args .n / 32)) = at-loop .inv .2 ∙ ap (λ (i : ℕ). freeBelow map (32 * i)) all in
+    (rw whole (c .free-bits .ensures .0), omega arith)
 
 pub free-count-spec : {M : Type 1} → statement M
 free-count-spec =
@@ -51,4 +45,7 @@ free-count-spec =
     (λ c. search needs)
     (λ c. search needs)
     loop-again
+    (λ c. search needs)
+    (λ c κs. search needs)
+    (λ c. search needs)
     returns)

@@ -2,8 +2,8 @@
 use mathlib.Core.Path.{_≡_, refl, sym, _∙_}
 use Prim.Native.Nat.{_-_, _≤_}
 use denote.Ref.{now}
-use borrow.Author.Tests.{not-true, not-false}
-use Rattle.tfs_map.specs.Free.{nextFree, next-end, next-here, next-past}
+use Rattle.tfs_map.specs.Free.{nextFree, next-end, next-here}
+use Rattle.tfs_map.specs.Words.{next-held, held-none}
 use borrow.Author.Needs.{needs}
 use Rattle.tfs_map.proofs.room.next_free.Statement.{statement}
 use Rattle.tfs_map.proofs.room.next_free.Tie as tie
@@ -21,13 +21,14 @@ returns : tie.Need-returns Inv-loop μ-loop
 returns c =
     let at-loop = c .before .before .before .loop in
     let args = c .before .before .before .before .before .args in
-    (sym (next-here (now (args .map)) (at-loop .b) (args .n) (search needs) (sym (c .before .map-bit .ensures) ∙ not-true _ (c .if1 .taken))) ∙ at-loop .inv .1, search needs)
+    let unheld = held-none (now (args .map)) (at-loop .b) (args .n) (search needs) (sym (c .before .held-from .ensures .0) ∙ c .if1 .taken) in
+    (sym (next-here (now (args .map)) (at-loop .b) (args .n) (search needs) unheld) ∙ at-loop .inv .1, search needs)
 
 loop-again : tie.Need-loop-again Inv-loop μ-loop
 loop-again c =
     let at-loop = c .before .before .before .loop in
     let args = c .before .before .before .before .before .args in
-    (search needs, next-past (now (args .map)) (at-loop .b) (args .n) (search needs) (sym (c .before .map-bit .ensures) ∙ not-false _ (c .if1 .left)) ∙ at-loop .inv .1)
+    (search needs, rw (c .before .held-from .ensures .0) (next-held (now (args .map)) (at-loop .b) (args .n) (search needs) ∙ at-loop .inv .1))
 
 returns-2 : tie.Need-returns-2 Inv-loop μ-loop
 returns-2 c =

@@ -1,15 +1,15 @@
 -- `is_free` meets its contract.
-use mathlib.Core.Path.{_∙_}
+use mathlib.Core.Path.{_≡_}
 use denote.Ref.{now}
-use Rattle.tfs_tally.specs.Files.{free-at}
+use Rattle.tfs_tally.specs.Files.{free-zero}
 use borrow.Author.Needs.{needs}
 use Rattle.tfs_tally.proofs.files.is_free.Statement.{statement}
 use Rattle.tfs_tally.proofs.files.is_free.Tie as tie
 
 returns : tie.Need-returns
-returns c = c .slot-free .ensures ∙ free-at (now (c .before .before .before .args .image)) (c .before .before .before .args .s)
+returns c =
+    let start = c .before .before in
+    rw (c .inode-in .ensures) (free-zero (now (start .args .image)) (start .args .s) (start .pre .0) (start .pre .1))
 
 pub is-free-spec : {M : Type 1} → statement M
-is-free-spec =
-    tie.close
-    (tie.spec (λ c. search needs) (λ c. search needs) (λ c. search needs) (λ c κs. search needs) returns)
+is-free-spec = tie.close (tie.spec (λ c κs. search needs) returns)
