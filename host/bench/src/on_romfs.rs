@@ -6,7 +6,7 @@ use reference::make::{flat_rom, tree_rom, Rom};
 use reference::romfs as reference_romfs;
 
 use crate::race::Race;
-use crate::table::{ns, ratio, Table};
+use crate::table::{ns, pair, Table};
 
 /// Check and find on images of many entries.
 pub fn requests(rounds: usize) {
@@ -34,13 +34,7 @@ pub fn requests(rounds: usize) {
             ("check", check(rounds, made)),
             ("find the last of the root", find(rounds, made, name)),
         ] {
-            let cells = [ns(times[0]), ns(times[1]), ratio(times[0], times[1])];
-            table.row(
-                [format!("{request}, {title}")]
-                    .into_iter()
-                    .chain(cells)
-                    .collect(),
-            );
+            table.row(format!("{request}, {title}"), pair(&times));
         }
     }
     table.print("romfs: images of many entries");
@@ -69,15 +63,8 @@ pub fn growth(rounds: usize) {
     for count in [1_000, 2_000, 4_000, 8_000, 16_000] {
         let plain = check(rounds, &flat_rom(count, 0));
         let links = check(rounds, &flat_rom(count / 4 * 3, count / 4));
-        table.row(vec![
-            ns(count as f64),
-            ns(plain[0]),
-            ns(plain[1]),
-            ratio(plain[0], plain[1]),
-            ns(links[0]),
-            ns(links[1]),
-            ratio(links[0], links[1]),
-        ]);
+        let cells = pair(&plain).into_iter().chain(pair(&links));
+        table.row(ns(count as f64), cells);
     }
     table.print("romfs: check of one list");
 }

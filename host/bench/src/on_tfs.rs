@@ -5,7 +5,7 @@ use std::hint::black_box;
 use reference::tfs::{self as reference_tfs, LARGEST_FILE, MOST_BLOCKS};
 
 use crate::race::Race;
-use crate::table::{ns, ratio, Table};
+use crate::table::{ns, pair, ratio, Table};
 use crate::volumes::{empty, plain, with_data, with_files, Made};
 
 /// Times an operation of both programs, each on its own copy of an image.
@@ -45,13 +45,7 @@ pub fn requests(rounds: usize) {
     for (title, image) in plain() {
         let full = title.starts_with("25");
         let mut row = |request: &str, times: Vec<f64>| {
-            let cells = [ns(times[0]), ns(times[1]), ratio(times[0], times[1])];
-            table.row(
-                [format!("{request}, {title}")]
-                    .into_iter()
-                    .chain(cells)
-                    .collect(),
-            );
+            table.row(format!("{request}, {title}"), pair(&times));
         };
         row("check", check(rounds, &image));
         row("free bytes", free_bytes(rounds, &image));
@@ -114,14 +108,14 @@ pub fn transfers(rounds: usize) {
                 unreachable!("five lanes");
             };
             let row = |table: &mut Table, ours: f64, theirs: f64| {
-                table.row(vec![
-                    format!("{request}, {}", made.title),
+                let cells = [
                     ns(ours),
                     ns(theirs),
                     ns(copy),
                     ratio(ours, theirs),
                     ratio(ours, copy),
-                ]);
+                ];
+                table.row(format!("{request}, {}", made.title), cells);
             };
             row(&mut whole, ours, theirs);
             row(&mut less, ours - ours_check, theirs - theirs_check);
@@ -170,24 +164,14 @@ pub fn growth(rounds: usize) {
     let mut blocks = Table::new(heads);
     for count in [64, 256, 1024, MOST_BLOCKS] {
         let times = check(rounds, &empty(count));
-        blocks.row(vec![
-            count.to_string(),
-            ns(times[0]),
-            ns(times[1]),
-            ratio(times[0], times[1]),
-        ]);
+        blocks.row(count.to_string(), pair(&times));
     }
     blocks.print("TFS: check of an empty volume");
     for size in [1_000, LARGEST_FILE] {
         let mut files = Table::new(&heads.replace("blocks", "files"));
         for count in [0, 1, 2, 4, 8, 12, 16, 20, 25] {
             let times = check(rounds, &with_files(MOST_BLOCKS, &vec![size; count]));
-            files.row(vec![
-                count.to_string(),
-                ns(times[0]),
-                ns(times[1]),
-                ratio(times[0], times[1]),
-            ]);
+            files.row(count.to_string(), pair(&times));
         }
         let size = ns(size.into());
         files.print(&format!(

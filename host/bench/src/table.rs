@@ -1,3 +1,5 @@
+use std::iter::once;
+
 /// A table in Markdown.
 pub struct Table {
     heads: Vec<String>,
@@ -14,10 +16,11 @@ impl Table {
         }
     }
 
-    /// Adds a row.
-    pub fn row(&mut self, cells: Vec<String>) {
-        assert_eq!(cells.len(), self.heads.len());
-        self.rows.push(cells);
+    /// Adds a row with a title.
+    pub fn row(&mut self, title: String, cells: impl IntoIterator<Item = String>) {
+        let row: Vec<String> = once(title).chain(cells).collect();
+        assert_eq!(row.len(), self.heads.len());
+        self.rows.push(row);
     }
 
     /// Prints the table under a title.
@@ -29,6 +32,11 @@ impl Table {
             println!("| {} |", row.join(" | "));
         }
     }
+}
+
+/// The cells of a race between the proved request and the reference.
+pub fn pair(times: &[f64]) -> [String; 3] {
+    [ns(times[0]), ns(times[1]), ratio(times[0], times[1])]
 }
 
 /// Nanoseconds with separators.

@@ -2,11 +2,12 @@
 
 use reference::cases::{romfs_arguments, Arguments, Kind};
 use reference::make::{
-    damage_rom, damage_rom_twice, flat_rom, rom, scramble_rom, tree_rom, Random, Rom, RomPlan,
+    damage_rom, damage_rom_twice, flat_rom, rom, scramble_rom, seal_volume, tree_rom, Random, Rom,
+    RomPlan,
 };
 
 use crate::rom_forest::forest;
-use crate::rom_grid::{grid, seal};
+use crate::rom_grid::grid;
 use crate::run::{Comparison, Stop};
 
 const OTHERS: [Kind; 4] = [
@@ -103,7 +104,7 @@ fn noise(random: &mut Random) -> Rom {
         let full_size = length & !15;
         image[..8].copy_from_slice(b"-rom1fs-");
         image[8..12].copy_from_slice(&(full_size as u32).to_be_bytes());
-        seal(&mut image[..full_size.min(512)]);
+        seal_volume(&mut image);
     }
     Rom {
         image,

@@ -1,9 +1,8 @@
 //! The two programs behind one form of request: a kind and its arguments on lent bytes.
 
 use proved::c;
-use reference::cases::{Arguments, Kind};
-use reference::tfs::Listing;
-use reference::{romfs, tfs, Refusal};
+use reference::cases::{self, Arguments, Granted, Kind};
+use reference::{romfs, Refusal};
 
 use crate::{Answer, Lent};
 
@@ -25,27 +24,23 @@ pub fn proved(kind: Kind, arguments: &Arguments, lents: &mut Lents) -> Answer {
     let name = lents.name.bytes();
     let buffer = lents.buffer.bytes_mut();
     match kind {
-        Kind::TfsCheck => tfs_answer(c::tfs::check(image)),
-        Kind::TfsFormat => tfs_answer(c::tfs::format(image, name)),
-        Kind::TfsOpen => tfs_answer(c::tfs::open(image, name)),
-        Kind::TfsCreate => tfs_answer(c::tfs::create(image, name, first)),
-        Kind::TfsRemove => tfs_answer(c::tfs::remove(image, name)),
-        Kind::TfsRead => tfs_answer(c::tfs::read(image, first, second, buffer)),
-        Kind::TfsWrite => tfs_answer(c::tfs::write(image, first, second, buffer)),
+        Kind::TfsCheck => value_answer(c::tfs::check(image)),
+        Kind::TfsFormat => value_answer(c::tfs::format(image, name)),
+        Kind::TfsOpen => value_answer(c::tfs::open(image, name)),
+        Kind::TfsCreate => value_answer(c::tfs::create(image, name, first)),
+        Kind::TfsRemove => value_answer(c::tfs::remove(image, name)),
+        Kind::TfsRead => value_answer(c::tfs::read(image, first, second, buffer)),
+        Kind::TfsWrite => value_answer(c::tfs::write(image, first, second, buffer)),
         Kind::TfsList => slot_answer(c::tfs::list(image, first)),
-        Kind::TfsFree => tfs_answer(c::tfs::free_bytes(image)),
-        Kind::RomCheck => rom_answer(c::romfs::check(image)),
-        Kind::RomFind => rom_answer(c::romfs::find(image, first, name)),
+        Kind::TfsFree => value_answer(c::tfs::free_bytes(image)),
+        Kind::RomCheck => value_answer(c::romfs::check(image)),
+        Kind::RomFind => value_answer(c::romfs::find(image, first, name)),
         Kind::RomEntry => entry_answer(c::romfs::entry(image, first)),
         Kind::RomLength | Kind::RomContent => part_answer(c::romfs::content(image, first)),
     }
 }
 
-fn tfs_answer(answer: c::tfs::Answer) -> Answer {
-    Answer::of(&[answer.refusal, answer.place, answer.value])
-}
-
-fn rom_answer(answer: c::romfs::Answer) -> Answer {
+fn value_answer(answer: c::Answer) -> Answer {
     Answer::of(&[answer.refusal, answer.place, answer.value])
 }
 
@@ -80,56 +75,22 @@ fn part_answer(part: c::romfs::Part) -> Answer {
 
 /// Answers with the reference, in the form that the C interface owes.
 pub fn reference(kind: Kind, arguments: &Arguments, lents: &mut Lents) -> Answer {
-    let (first, second) = (arguments.first, arguments.second);
     let image = lents.image.bytes_mut();
-    let name = lents.name.bytes();
-    let buffer = lents.buffer.bytes_mut();
-    let granted = match kind {
-        Kind::TfsCheck => tfs::check(image).map(nothing),
-        Kind::TfsFormat => tfs::format(image, name).map(nothing),
-        Kind::TfsOpen => tfs::open(image, name).map(value),
-        Kind::TfsCreate => tfs::create(image, name, first).map(value),
-        Kind::TfsRemove => tfs::remove(image, name).map(nothing),
-        Kind::TfsRead => tfs::read(image, first, second, buffer).map(value),
-        Kind::TfsWrite => tfs::write(image, first, second, buffer).map(value),
-        Kind::TfsList => tfs::list(image, first).map(listing),
-        Kind::TfsFree => tfs::free_bytes(image).map(value),
-        Kind::RomCheck => romfs::check(image).map(nothing),
-        Kind::RomFind => romfs::find(image, first, name).map(value),
-        Kind::RomEntry => romfs::entry(image, first).map(entry),
-        Kind::RomLength | Kind::RomContent => content(image, first),
+    let answer = match kind {
+        Kind::RomLength | Kind::RomContent => content(image, arguments.first),
+        _ => cases::run(kind, arguments, image, lents.buffer.bytes_mut()).map(granted),
     };
-    granted.unwrap_or_else(|Refusal { number, place }| Answer::of(&[number, place]))
+    answer.unwrap_or_else(|Refusal { number, place }| Answer::of(&[number, place]))
 }
 
-fn nothing((): ()) -> Answer {
-    Answer::default()
-}
-
-fn value(value: u32) -> Answer {
-    Answer::of(&[0, 0, value])
-}
-
-fn listing(listing: Listing) -> Answer {
-    match listing {
-        Listing::Free => Answer::default(),
-        Listing::Used { name, inode, size } => {
-            Answer::of(&[0, 0, 1, inode, size, name.len() as u32]).named(name)
-        }
+/// The numbers of a result, and the name of a listed file with its length.
+fn granted((values, name): Granted) -> Answer {
+    let mut words = vec![0, 0];
+    words.extend(values);
+    if !name.is_empty() {
+        words.push(name.len() as u32);
     }
-}
-
-fn entry(entry: romfs::Entry) -> Answer {
-    Answer::of(&[
-        0,
-        0,
-        entry.kind as u32,
-        u32::from(entry.executable),
-        entry.spec_info,
-        entry.size,
-        entry.next,
-        entry.name_length,
-    ])
+    Answer::of(&words).named(&name)
 }
 
 /// The offset is that of the part itself, so that the same bytes are meant and not equal ones.

@@ -16,3 +16,18 @@ pub struct Refusal {
     /// The slot, block or header at fault, or 0.
     pub place: u32,
 }
+
+/// What an answer grants, or the refusal that it has the number and the place of.
+fn told<T>(number: u32, place: u32, granted: T) -> Result<T, Refusal> {
+    match number {
+        0 => Ok(granted),
+        _ => Err(Refusal { number, place }),
+    }
+}
+
+impl c::Answer {
+    /// The value, or the refusal.
+    fn told(self) -> Result<u32, Refusal> {
+        told(self.refusal, self.place, self.value)
+    }
+}

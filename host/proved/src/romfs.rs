@@ -1,7 +1,7 @@
 //! The romfs requests of `include/romfs.h`.
 
 use crate::c::romfs as c;
-use crate::Refusal;
+use crate::{told, Refusal};
 
 /// An entry, as its header gives it.
 #[derive(Clone, Copy, Debug, PartialEq, Eq)]
@@ -20,24 +20,14 @@ pub struct Entry {
     pub name_length: u32,
 }
 
-fn told<T>(refusal: u32, place: u32, granted: T) -> Result<T, Refusal> {
-    if refusal == 0 {
-        Ok(granted)
-    } else {
-        Err(Refusal { number: refusal, place })
-    }
-}
-
 /// Checks the image.
 pub fn check(image: &[u8]) -> Result<(), Refusal> {
-    let answer = c::check(image);
-    told(answer.refusal, answer.place, ())
+    c::check(image).told().map(drop)
 }
 
 /// The header of a name in a directory's list; 0 is the root.
 pub fn find(image: &[u8], directory: u32, name: &[u8]) -> Result<u32, Refusal> {
-    let answer = c::find(image, directory, name);
-    told(answer.refusal, answer.place, answer.value)
+    c::find(image, directory, name).told()
 }
 
 /// The entry at a header.

@@ -1,7 +1,7 @@
 //! The TFS requests of `include/tfs.h`.
 
-use crate::c::tfs::{self as c, Answer};
-use crate::Refusal;
+use crate::c::tfs as c;
+use crate::{told, Refusal};
 
 /// A file, as list gives it.
 #[derive(Clone, Debug, PartialEq, Eq)]
@@ -14,55 +14,45 @@ pub struct File {
     pub size: u32,
 }
 
-fn told(answer: Answer) -> Result<u32, Refusal> {
-    if answer.refusal == 0 {
-        Ok(answer.value)
-    } else {
-        Err(Refusal { number: answer.refusal, place: answer.place })
-    }
-}
-
 /// Makes an empty volume.
 pub fn format(image: &mut [u8], label: &[u8]) -> Result<(), Refusal> {
-    told(c::format(image, label)).map(|_| ())
+    c::format(image, label).told().map(drop)
 }
 
 /// Checks the volume.
 pub fn check(image: &[u8]) -> Result<(), Refusal> {
-    told(c::check(image)).map(|_| ())
+    c::check(image).told().map(drop)
 }
 
 /// The handle of a file.
 pub fn open(image: &[u8], name: &[u8]) -> Result<u32, Refusal> {
-    told(c::open(image, name))
+    c::open(image, name).told()
 }
 
 /// Creates a file of zeros; its handle.
 pub fn create(image: &mut [u8], name: &[u8], size: u32) -> Result<u32, Refusal> {
-    told(c::create(image, name, size))
+    c::create(image, name, size).told()
 }
 
 /// Removes a file.
 pub fn remove(image: &mut [u8], name: &[u8]) -> Result<(), Refusal> {
-    told(c::remove(image, name)).map(|_| ())
+    c::remove(image, name).told().map(drop)
 }
 
 /// Reads into the buffer; the count.
 pub fn read(image: &[u8], handle: u32, offset: u32, buffer: &mut [u8]) -> Result<u32, Refusal> {
-    told(c::read(image, handle, offset, buffer))
+    c::read(image, handle, offset, buffer).told()
 }
 
 /// Writes the buffer into the file; the count.
 pub fn write(image: &mut [u8], handle: u32, offset: u32, buffer: &[u8]) -> Result<u32, Refusal> {
-    told(c::write(image, handle, offset, buffer))
+    c::write(image, handle, offset, buffer).told()
 }
 
 /// What stands in a slot: nothing, or a file.
 pub fn list(image: &[u8], slot: u32) -> Result<Option<File>, Refusal> {
     let listed = c::list(image, slot);
-    if listed.refusal != 0 {
-        return Err(Refusal { number: listed.refusal, place: listed.place });
-    }
+    told(listed.refusal, listed.place, ())?;
     if listed.used == 0 {
         return Ok(None);
     }
@@ -72,5 +62,5 @@ pub fn list(image: &[u8], slot: u32) -> Result<Option<File>, Refusal> {
 
 /// The free bytes.
 pub fn free_bytes(image: &[u8]) -> Result<u32, Refusal> {
-    told(c::free_bytes(image))
+    c::free_bytes(image).told()
 }

@@ -4,3 +4,15 @@
 
 pub mod romfs;
 pub mod tfs;
+
+/// `tfs_result` and `romfs_result`.
+#[repr(C)]
+#[derive(Clone, Copy, Debug, PartialEq, Eq)]
+pub struct Answer {
+    /// The number of the refusal; 0 is granted.
+    pub refusal: u32,
+    /// The slot, block or header at fault.
+    pub place: u32,
+    /// A handle, a count, free bytes, or the offset of a found header.
+    pub value: u32,
+}

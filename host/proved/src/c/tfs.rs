@@ -1,16 +1,6 @@
 //! `include/tfs.h`.
 
-/// `tfs_result`.
-#[repr(C)]
-#[derive(Clone, Copy, Debug, PartialEq, Eq)]
-pub struct Answer {
-    /// The number of the refusal; 0 is granted.
-    pub refusal: u32,
-    /// The slot or block at fault.
-    pub place: u32,
-    /// A handle, a count or free bytes.
-    pub value: u32,
-}
+use super::Answer;
 
 /// `tfs_slot`.
 #[repr(C)]

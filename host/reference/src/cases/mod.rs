@@ -2,9 +2,11 @@
 
 mod on_roms;
 mod on_volumes;
+mod tfs_arguments;
 
 pub use on_roms::{romfs_arguments, romfs_cases};
-pub use on_volumes::{tfs_arguments, tfs_cases};
+pub use on_volumes::tfs_cases;
+pub use tfs_arguments::tfs_arguments;
 
 use crate::romfs;
 use crate::tfs::{self, Listing};
@@ -123,17 +125,18 @@ pub fn fnv1a<'a>(bytes: impl IntoIterator<Item = &'a u8>) -> u64 {
     })
 }
 
-type Outcome = Result<(Vec<u32>, Vec<u8>), Refusal>;
+/// The numbers of a granted result, and its name or content.
+pub type Granted = (Vec<u32>, Vec<u8>);
 
-fn run(kind: Kind, arguments: &Arguments, image: &mut [u8], buffer: &mut [u8]) -> Outcome {
-    let Arguments {
-        first,
-        second,
-        ref name,
-        ..
-    } = *arguments;
-    let nothing = |()| (Vec::new(), Vec::new());
-    let one = |value: u32| (vec![value], Vec::new());
+/// Makes a request; the buffer is given besides the arguments because a read changes it.
+pub fn run(
+    kind: Kind,
+    arguments: &Arguments,
+    image: &mut [u8],
+    buffer: &mut [u8],
+) -> Result<Granted, Refusal> {
+    let Arguments { first, second, .. } = *arguments;
+    let name = &arguments.name;
     match kind {
         Kind::TfsCheck => tfs::check(image).map(nothing),
         Kind::TfsFormat => tfs::format(image, name).map(nothing),
@@ -142,32 +145,46 @@ fn run(kind: Kind, arguments: &Arguments, image: &mut [u8], buffer: &mut [u8]) -
         Kind::TfsRemove => tfs::remove(image, name).map(nothing),
         Kind::TfsRead => tfs::read(image, first, second, buffer).map(one),
         Kind::TfsWrite => tfs::write(image, first, second, buffer).map(one),
-        Kind::TfsList => tfs::list(image, first).map(|listing| match listing {
-            Listing::Free => (vec![0], Vec::new()),
-            Listing::Used { name, inode, size } => (vec![1, inode, size], name.to_vec()),
-        }),
+        Kind::TfsList => tfs::list(image, first).map(listed),
         Kind::TfsFree => tfs::free_bytes(image).map(one),
         Kind::RomCheck => romfs::check(image).map(nothing),
         Kind::RomFind => romfs::find(image, first, name).map(one),
-        Kind::RomEntry => romfs::entry(image, first).map(|entry| {
-            let executable = u32::from(entry.executable);
-            let romfs::Entry {
-                kind,
-                spec_info,
-                size,
-                next,
-                name_length,
-                ..
-            } = entry;
-            (
-                vec![kind as u32, executable, spec_info, size, next, name_length],
-                Vec::new(),
-            )
-        }),
+        Kind::RomEntry => romfs::entry(image, first).map(described),
         Kind::RomLength => romfs::content_length(image, first).map(one),
         Kind::RomContent => {
             let content = romfs::content(image, first);
             Ok((vec![content.len() as u32], content.to_vec()))
         }
     }
+}
+
+/// The result of a request that gives none.
+fn nothing((): ()) -> Granted {
+    (Vec::new(), Vec::new())
+}
+
+/// The result of a request that gives a number.
+fn one(value: u32) -> Granted {
+    (vec![value], Vec::new())
+}
+
+/// A slot: 0 if it is free, else 1, inode number, size and name.
+fn listed(listing: Listing) -> Granted {
+    match listing {
+        Listing::Free => one(0),
+        Listing::Used { name, inode, size } => (vec![1, inode, size], name.to_vec()),
+    }
+}
+
+/// The numbers of an entry.
+fn described(entry: romfs::Entry) -> Granted {
+    let values = vec![
+        entry.kind as u32,
+        u32::from(entry.executable),
+        entry.spec_info,
+        entry.size,
+        entry.next,
+        entry.name_length,
+    ];
+    (values, Vec::new())
 }

@@ -1,6 +1,8 @@
 //! romfs images with faults of a known number and place.
 
-use super::rom::{seal_header, seal_volume, set};
+use std::ops::Range;
+
+use super::rom_words::{seal_header, seal_volume, set, set_next};
 use super::{Placed, Random, Rom};
 use crate::romfs::Kind;
 use crate::Refusal;
@@ -36,10 +38,7 @@ pub fn scramble_rom(random: &mut Random, rom: &Rom) -> Vec<u8> {
         let aim = random.below(rom.entries.len() + 1);
         let aim = rom.entries.get(aim).map_or(rom.full_size, |entry| entry.at);
         match random.below(6) {
-            0 if header > 0 => {
-                let low = u32::from(image[header + 3] & 15);
-                set(&mut image, header, aim | low);
-            }
+            0 if header > 0 => set_next(&mut image, header, aim),
             1 if header > 0 => set(&mut image, header + 4, aim),
             2 if header > 0 => image[header + 3] ^= 1 << random.below(4),
             3 if header > 0 => image[header + 11] = random.bits() as u8,
@@ -114,56 +113,62 @@ impl<'a> Damage<'a> {
         Some((self.image, first))
     }
 
+    /// Breaks a rule and gives the refusal owed to that fault alone.
     fn strike(&mut self, random: &mut Random, rule: u32) -> Option<Refusal> {
         let place = match rule {
-            21 => {
-                self.length = random.pick(&[0, 1, 7, 8, 16, 31, 31]);
-                0
-            }
-            22 => {
-                let index = random.below(8);
-                self.image[index] = self.rom.image[index] ^ (1 << random.below(8));
-                0
-            }
-            23 => {
-                let full_size = self.rom.full_size;
-                let long = (self.image.len() as u32 + 1).next_multiple_of(16);
-                let odd = full_size - random.between(1, 15) as u32;
-                let wrong = [
-                    0,
-                    16,
-                    31,
-                    odd,
-                    odd,
-                    long,
-                    long,
-                    0x8000_0000 | full_size,
-                    0xFFFF_FFF0,
-                ];
-                set(&mut self.image, 8, random.pick(&wrong));
-                self.unsealed = true;
-                0
-            }
-            24 => {
-                seal_volume(&mut self.image);
-                self.image[12 + random.below(4)] ^= 1 << random.below(8);
-                self.unsealed = true;
-                0
-            }
-            25 => {
-                let end = self.rom.full_size as usize;
-                self.image[16..end]
-                    .iter_mut()
-                    .for_each(|byte| *byte = random.nonzero());
-                0
-            }
             26 => self.break_header(random)?,
             27 => self.break_nesting(random)?,
             28 => too_deep(self.rom)?.place,
             29 => self.break_link(random)?,
-            _ => return None,
+            _ => self.break_volume(random, rule)?,
         };
         Some(Refusal::at(rule, place))
+    }
+
+    /// Breaks one of the rules 21 to 25, about the volume, and gives their place.
+    fn break_volume(&mut self, random: &mut Random, rule: u32) -> Option<u32> {
+        match rule {
+            21 => self.length = random.pick(&[0, 1, 7, 8, 16, 31, 31]),
+            22 => {
+                let index = random.below(8);
+                self.image[index] = self.rom.image[index] ^ (1 << random.below(8));
+            }
+            23 => self.break_full_size(random),
+            24 => {
+                seal_volume(&mut self.image);
+                self.image[12 + random.below(4)] ^= 1 << random.below(8);
+                self.unsealed = true;
+            }
+            25 => self.fill_nonzero(random, 16..self.rom.full_size as usize),
+            _ => return None,
+        }
+        Some(0)
+    }
+
+    /// Sets a full size that is too small, too large or odd.
+    fn break_full_size(&mut self, random: &mut Random) {
+        let full_size = self.rom.full_size;
+        let long = (self.image.len() as u32 + 1).next_multiple_of(16);
+        let odd = full_size - random.between(1, 15) as u32;
+        let wrong = [
+            0,
+            16,
+            31,
+            odd,
+            odd,
+            long,
+            long,
+            0x8000_0000 | full_size,
+            0xFFFF_FFF0,
+        ];
+        set(&mut self.image, 8, random.pick(&wrong));
+        self.unsealed = true;
+    }
+
+    /// Leaves no zero byte in a part of the image.
+    fn fill_nonzero(&mut self, random: &mut Random, part: Range<usize>) {
+        let bytes = self.image[part].iter_mut();
+        bytes.for_each(|byte| *byte = random.nonzero());
     }
 
     fn pick_entry(
@@ -189,12 +194,7 @@ impl<'a> Damage<'a> {
                 set(&mut self.image, at + 8, size);
             }
             1 => self.image[at + 16] = 0,
-            2 => {
-                let name = at + 16..entry.bound as usize;
-                self.image[name]
-                    .iter_mut()
-                    .for_each(|byte| *byte = random.nonzero());
-            }
+            2 => self.fill_nonzero(random, at + 16..entry.bound as usize),
             3 if governed => {
                 let spec = random.pick(&[1, 16, entry.at, u32::MAX]);
                 set(&mut self.image, at + 4, spec);
@@ -219,15 +219,13 @@ impl<'a> Damage<'a> {
 
     fn set_next(&mut self, entry: &Placed, next: u32) {
         let at = entry.at as usize;
-        let low = u32::from(self.image[at + 3] & 15);
-        set(&mut self.image, at, next | low);
+        set_next(&mut self.image, at, next);
         seal_header(&mut self.image, at);
     }
 
     fn break_nesting(&mut self, random: &mut Random) -> Option<u32> {
-        let directory = |entry: &Placed| entry.kind == Kind::Directory && !entry.is_dot();
         if random.one_in(2) {
-            if let Some(entry) = self.pick_entry(random, directory) {
+            if let Some(entry) = self.pick_entry(random, Placed::is_descended) {
                 let own = entry.own_bound();
                 let wrong = [
                     16,

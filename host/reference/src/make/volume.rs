@@ -104,39 +104,23 @@ fn canvas(random: &mut Random, blocks: usize) -> Vec<u8> {
     }
 }
 
+/// Draws the files of a volume; each takes its blocks out of those that are left.
 fn plan(random: &mut Random, shape: Shape, blocks: usize) -> Vec<MadeFile> {
-    let mut free: Vec<u32> = (3..blocks as u32).collect();
-    if !random.one_in(4) {
-        random.shuffle(&mut free);
-    }
-    let mut slots: Vec<usize> = (0..SLOTS).collect();
-    if !random.one_in(3) {
-        random.shuffle(&mut slots);
-    }
-    let count = match shape {
-        Shape::Empty => 0,
-        Shape::Crowded => SLOTS,
-        Shape::Full => random.between(1, 8),
-        _ => random.between(1, 5),
-    };
+    let mut free = mixed(random, 3..blocks as u32, 4);
+    let mut slots = mixed(random, 0..SLOTS, 3);
+    slots.truncate(file_count(random, shape));
     let mut files: Vec<MadeFile> = Vec::new();
-    for (index, &slot) in slots.iter().take(count).enumerate() {
-        let Some(room) = free.len().checked_sub(1) else {
+    for (index, &slot) in slots.iter().enumerate() {
+        let Some(inode) = free.pop() else {
             break;
         };
-        let share = match shape {
-            Shape::Crowded => room.saturating_sub(count - 1 - index).min(2),
-            Shape::Full if index + 1 < count => room.saturating_sub(room.min(2)),
-            Shape::Scattered => room.min(30),
-            _ => room,
-        };
-        let most = (share * BLOCK_SIZE).min(LARGEST_FILE as usize);
+        let later = slots.len() - 1 - index;
+        let most = share(shape, free.len(), later);
         let size = match shape {
             Shape::Largest if index == 0 => most,
-            Shape::Full if index + 1 == count => most - random.below(most.min(BLOCK_SIZE) + 1) / 2,
+            Shape::Full if later == 0 => most - random.below(most.min(BLOCK_SIZE) + 1) / 2,
             _ => some_size(random, most),
         };
-        let inode = free.pop().unwrap_or_default();
         let content = free.split_off(free.len() - size.div_ceil(BLOCK_SIZE));
         let name = fresh_name(random, &files);
         files.push(MadeFile {
@@ -149,6 +133,36 @@ fn plan(random: &mut Random, shape: Shape, blocks: usize) -> Vec<MadeFile> {
     }
     files.sort_by_key(|file| file.slot);
     files
+}
+
+/// Numbers in a random order, but once in `times` as they are.
+fn mixed<T>(random: &mut Random, numbers: impl Iterator<Item = T>, times: usize) -> Vec<T> {
+    let mut numbers: Vec<T> = numbers.collect();
+    if !random.one_in(times) {
+        random.shuffle(&mut numbers);
+    }
+    numbers
+}
+
+/// The number of files to aim at.
+fn file_count(random: &mut Random, shape: Shape) -> usize {
+    match shape {
+        Shape::Empty => 0,
+        Shape::Crowded => SLOTS,
+        Shape::Full => random.between(1, 8),
+        _ => random.between(1, 5),
+    }
+}
+
+/// The greatest size of a file where so many blocks are free and so many files come later.
+fn share(shape: Shape, free: usize, later: usize) -> usize {
+    let blocks = match shape {
+        Shape::Crowded => free.saturating_sub(later).min(2),
+        Shape::Full if later > 0 => free.saturating_sub(2),
+        Shape::Scattered => free.min(30),
+        _ => free,
+    };
+    (blocks * BLOCK_SIZE).min(LARGEST_FILE as usize)
 }
 
 /// A size up to `most`, often one at the edge of a block.
