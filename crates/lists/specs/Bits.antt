@@ -26,6 +26,11 @@ unfolding bitOf
 bit-small n zero = omega arith
 bit-small n (suc k) = bit-small (n / 2) k
 
+pub bit-zero : (k : ℕ) → bitOf 0 k ≡ 0
+unfolding bitOf
+bit-zero zero = refl
+bit-zero (suc k) = bit-zero k
+
 half : (n m v : ℕ) → (m * 2 + n % 2) / 2 ≡ m
 half n m v = omega arith
 

@@ -1,7 +1,8 @@
 -- The least index with a test.
-use mathlib.Core.Path.{_≡_, refl, sym, subst}
+use mathlib.Core.Path.{_≡_, refl, sym, subst, _∙_}
+use mathlib.Core.Logic.{_≢_}
 use mathlib.Core.Bool.{Bool, true, false, not, cond}
-use Prim.Native.Nat.{ℕ, zero, suc, _≤_, _<_}
+use Prim.Native.Nat.{ℕ, zero, suc, _≤_, _<_, min}
 use native.Mathlib.Omega.{arith}
 use native.Mathlib.Decide.{decLt, ℕ-discrete}
 use lib.Arith.{lt-of-le-ne}
@@ -78,6 +79,31 @@ unfolding least
 least-cong f g zero h = refl
 least-cong f g (suc n) h = λ i.
     let r : ℕ = least-cong f g n (λ j l. h j (omega arith)) i in cond (ltb r n) r (cond (h n (omega arith) i) n (suc n))
+
+-- ---- one index more at which a test holds
+module _ (f g : ℕ → Bool) (b : ℕ) (hit : T (g b)) (same : (k : ℕ) → k ≢ b → f k ≡ g k) where
+  past : (n i : ℕ) → i < least f n → i ≢ b → T (not (g i))
+  past n i h d = subst (λ (t : Bool). T (not t)) (same i d) (least-below f n i h)
+
+  pub least-more : (n : ℕ) → min b (least f n) ≡ least g n
+  least-more n =
+      elim (decLt b (least f n)) [
+        | yes h ↦
+            let e : min b (least f n) ≡ b = omega arith in
+            e ∙ sym (least-is g n b (omega (arith, least-le f n)) hit (λ i l. past n i (omega arith) (λ q. omega arith)))
+        | no h ↦
+            let e : min b (least f n) ≡ least f n = omega arith in
+            elim (decLt (least f n) n) [
+              | yes l ↦ e ∙ sym (least-is g n (least f n) l (at (ℕ-discrete (least f n) b) l) (λ i k. past n i k (λ q. omega arith)))
+              | no l ↦
+                  let z : least f n ≡ n = omega (arith, least-le f n) in
+                  e ∙ z ∙ sym (least-all g n (λ i k. past n i (omega arith) (λ q. omega arith)))
+            ]
+      ]
+    where
+      at : Dec (least f n ≡ b) → least f n < n → T (g (least f n))
+      at (yes e) l = subst (λ (k : ℕ). T (g k)) (sym e) hit
+      at (no e) l = subst T (same (least f n) e) (least-hit f n l)
 
 -- ---- for a search in code, which goes up from 0
 abbrev pub Below : (ℕ → Bool) → ℕ → Type 0

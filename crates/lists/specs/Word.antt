@@ -5,6 +5,8 @@ use mathlib.Core.List.{List, [], _∷_, _++_}
 use native.Mathlib.Omega.{arith}
 use lib.ListN.{length, getD, take, drop}
 use lib.Seq.{getD-take, getD-drop, getD-append-add}
+use lib.Dec.{T}
+use Rattle.lists.specs.Test.{allZero, zero-bytes}
 
 -- the word of four bytes
 abbrev pub wordOf : ℕ → ℕ → ℕ → ℕ → ℕ
@@ -56,3 +58,9 @@ pub word-part : (l : List ℕ) (s n p : ℕ) → p + 4 ≤ n → word (take n (d
 word-part l s n p h =
     word-cong (take n (drop s l)) l p (s + p)
     (λ j k. getD-take n (drop s l) (p + j) 0 (omega arith) ∙ getD-drop s l (p + j) 0 ∙ ap (λ (i : ℕ). getD l i 0) (omega arith))
+
+-- a word of zeros
+pub zero-word : (l : List ℕ) (p : ℕ) → T (allZero l) → word l p ≡ 0
+unfolding word
+zero-word l p t =
+    omega (arith, zero-bytes l t p, zero-bytes l t (p + 1), zero-bytes l t (p + 2), zero-bytes l t (p + 3))

@@ -10,8 +10,8 @@ use lib.ListN.{length, getD, drop, drop-of-length-le}
 use lib.Seq.{drop-cons}
 use lib.Dec.{eqb}
 use borrow.Author.Tests.{eq-eqb, ne-eqb}
-use Rattle.lists.specs.Test.{allZero, zero-bytes, all-zero, to-true, to-false}
-use Rattle.lists.specs.Word.{word}
+use Rattle.lists.specs.Test.{allZero, all-zero, to-true, to-false}
+use Rattle.lists.specs.Word.{word, zero-word}
 
 -- all zero from index i on
 pub zeros-end : (l : List ℕ) (i : ℕ) → length l ≤ i → allZero (drop i l) ≡ true
@@ -26,8 +26,7 @@ module _ (l : List ℕ) (i : ℕ) (h : i < length l) where
 
 -- ---- by words
 pub word-not : (l : List ℕ) (p : ℕ) → (word l p ≡ 0 → ⊥) → allZero l ≡ false
-unfolding word
-word-not l p d = to-false (allZero l) (λ t. d (omega (arith, zero-bytes l t p, zero-bytes l t (p + 1), zero-bytes l t (p + 2), zero-bytes l t (p + 3))))
+word-not l p d = to-false (allZero l) (λ t. d (zero-word l p t))
 
 word-zero : (l : List ℕ) (p j : ℕ) → word l p ≡ 0 → j < 4 → getD l (p + j) 0 ≡ 0
 unfolding word

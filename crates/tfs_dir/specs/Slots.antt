@@ -1,15 +1,19 @@
 -- The fields of a slot as parts of the directory.
 use mathlib.Core.Path.{_≡_, sym, ap, _∙_}
+use mathlib.Core.Bool.{Bool, false, _||_}
 use Prim.Native.Nat.{ℕ, _+_, _*_, _-_, _≤_, _<_}
 use native.Mathlib.Nat.{add-sub-cancel-left}
 use native.Mathlib.Omega.{arith}
 use mathlib.Core.List.{List}
-use lib.ListN.{length, take, drop, length-drop}
-use lib.Seq.{take-all, take-take, drop-drop, length-take-le}
+use lib.ListN.{length, getD, take, drop, length-drop}
+use lib.Seq.{take-all, take-take, drop-drop, length-take-le, getD-take}
+use lib.Dec.{ltb, eqb}
+use borrow.Author.Tests.{ltb-false, eqb-false}
 use Rattle.lists.specs.Least.{least-le}
 use Rattle.lists.specs.Name.{zeroAt, firstZero, upToZero}
-use Rattle.lists.specs.Part.{part, length-part, drop-take}
-use Rattle.tfs_rules.specs.Layout.{slot, slotName}
+use Rattle.lists.specs.Part.{part, length-part, getD-part, drop-take}
+use Rattle.lists.specs.Test.{sameList, same-eq, to-false, or-no-l, or-no-r}
+use Rattle.tfs_rules.specs.Layout.{slot, slotName, sameName}
 
 -- a part of a part is a part of the whole
 pub part-part : (s n t m : ℕ) (l : List ℕ) → t + m ≤ n → part t m (part s n l) ≡ part (s + t) m l
@@ -63,3 +67,33 @@ module _ (dir : List ℕ) (s : ℕ) (h : length dir ≡ 512) (b : s < 25) where
       let z : k ≡ firstZero (part (s * 20 + 4) 16 dir) = e ∙ length-name in
       let short : k ≤ 16 = omega (arith, e, name-le) in
       rw add-sub-cancel-left (sym (take-take k 16 (drop (s * 20 + 4) dir) short) ∙ ap (λ (n : ℕ). take n (part (s * 20 + 4) 16 dir)) z ∙ name-field dir s)
+
+-- ---- the last byte of a name
+-- whether it stands in slot s at its place, or there is no such place
+unfoldable pub lastSame : List ℕ → ℕ → List ℕ → Bool
+lastSame dir s name = ltb (length name) 1 || (ltb 16 (length name) || eqb (getD dir (s * 20 + 3 + length name) 0) (getD name (length name - 1) 0))
+
+-- where it does not, the slot has another name
+module _ (dir : List ℕ) (s : ℕ) (name : List ℕ) (h : length dir ≡ 512) (b : s < 25) where
+  last-is : slotName (slot dir s) ≡ name → 1 ≤ length name → getD dir (s * 20 + 3 + length name) 0 ≡ getD name (length name - 1) 0
+  last-is e l =
+      let field : List ℕ = part (s * 20 + 4) 16 dir in
+      let z : firstZero field ≡ length name = sym (length-name dir s h b) ∙ ap length e in
+      let short : length name ≤ 16 = omega (arith, ap length e, name-le dir s h b) in
+      let at : s * 20 + 4 + (length name - 1) ≡ s * 20 + 3 + length name = omega arith in
+      sym
+      (ap (λ (x : List ℕ). getD x (length name - 1) 0) (sym (name-field dir s ∙ e))
+      ∙ getD-take (firstZero field) field (length name - 1) 0 (omega arith)
+      ∙ getD-part (s * 20 + 4) 16 dir (length name - 1) (omega arith)
+      ∙ ap (λ (i : ℕ). getD dir i 0) at)
+
+  pub last-not : lastSame dir s name ≡ false → sameName (slotName (slot dir s)) name ≡ false
+  unfolding lastSame sameName
+  last-not e =
+      let k : ℕ = length name in
+      let x : ℕ = getD dir (s * 20 + 3 + k) 0 in
+      let y : ℕ = getD name (k - 1) 0 in
+      let rest : (ltb 16 k || eqb x y) ≡ false = or-no-r (ltb k 1) (ltb 16 k || eqb x y) e in
+      let some : 1 ≤ k = ltb-false k 1 (or-no-l (ltb k 1) (ltb 16 k || eqb x y) e) in
+      to-false (sameList (slotName (slot dir s)) name)
+      (λ t. eqb-false x y (or-no-r (ltb 16 k) (eqb x y) rest) (last-is (same-eq (slotName (slot dir s)) name t) some))

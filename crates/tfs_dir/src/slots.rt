@@ -4,6 +4,7 @@ ghost use Prim.Native.Nat.{_<_, _≤_};
 ghost use lib.ListN.{length};
 ghost use Rattle.lists.specs.Name.{padTo};
 ghost use Rattle.tfs_rules.specs.Layout.{slot, slotFree, slotInode, slotUsed, slotName, sameName};
+ghost use Rattle.tfs_dir.specs.Slots.{lastSame};
 use crate::names::name_formed;
 use spans::copy::copy;
 use spans::search::first_zero;
@@ -59,11 +60,29 @@ pub fn name_length(dir: &[u8], s: usize) -> usize
     first_zero(&dir[a..e])
 }
 
+// Whether the last byte of the name stands in slot s at its place, or there is no such place.
+fn last_same(dir: &[u8], s: usize, name: &[u8]) -> bool
+    requires { ⌜ (length (now dir) ≡ 512) × (s < 25) ⌝ }
+    ensures { λ r. ⌜ r ≡ lastSame (now (dir .entry)) s (now (name .entry)) ⌝ }
+{
+    let k = name.len();
+    if k < 1 {
+        return true;
+    }
+    if 16 < k {
+        return true;
+    }
+    dir[s * 20 + 3 + k] == name[k - 1]
+}
+
 // Whether the name in slot s is this one.
 pub fn slot_named(dir: &[u8], s: usize, name: &[u8]) -> bool
     requires { ⌜ (length (now dir) ≡ 512) × (s < 25) ⌝ }
     ensures { λ r. ⌜ r ≡ sameName (slotName (slot (now (dir .entry)) s)) (now (name .entry)) ⌝ }
 {
+    if !last_same(dir, s, name) {
+        return false;
+    }
     let k = name_length(dir, s);
     let a = s * 20 + 4;
     let e = a + k;

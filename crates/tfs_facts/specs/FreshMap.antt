@@ -11,7 +11,7 @@ use lib.Dec.{T, ltb, eqb, ltb→lt}
 use borrow.Author.Tests.{lt-ltb, le-ltb}
 use Rattle.lists.specs.Test.{zero-bytes, of-true}
 use Rattle.lists.specs.Name.{zeros}
-use Rattle.lists.specs.Bits.{bitOf}
+use Rattle.lists.specs.Bits.{bitOf, bit-zero}
 use Rattle.tfs_rules.specs.Layout.{mapByte, mapBit, setBits}
 use Rattle.tfs_facts.specs.Entries.{zeros-zero}
 use Rattle.tfs_facts.specs.MapBits.{In, Mapped, bits-kept, bits-set}
@@ -20,15 +20,10 @@ use Rattle.tfs_facts.specs.MapBits.{In, Mapped, bits-kept, bits-set}
 pub zeros-byte : (n i : ℕ) → getD (zeros n) i 0 ≡ 0
 zeros-byte n i = zero-bytes (zeros n) (zeros-zero n) i
 
-zero-bit : (k : ℕ) → bitOf 0 k ≡ 0
-unfolding bitOf
-zero-bit zero = refl
-zero-bit (suc k) = zero-bit k
-
 -- no block is marked in a map of zeros
 zeros-clear : (n b : ℕ) → mapBit (zeros n) b ≡ false
 unfolding mapBit
-zeros-clear n b = ap (λ (x : ℕ). eqb (bitOf x (b % 8)) 1) (zeros-byte n (mapByte b)) ∙ ap (λ (x : ℕ). eqb x 1) (zero-bit (b % 8))
+zeros-clear n b = ap (λ (x : ℕ). eqb (bitOf x (b % 8)) 1) (zeros-byte n (mapByte b)) ∙ ap (λ (x : ℕ). eqb x 1) (bit-zero (b % 8))
 
 -- ---- the map marks blocks 0 to 2
 abbrev pub formatMap : ℕ → List ℕ

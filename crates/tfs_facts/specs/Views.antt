@@ -1,25 +1,20 @@
 -- What a view takes from its image.
 use mathlib.Core.Path.{_≡_, refl, ap, _∙_, subst}
 use mathlib.Core.Bool.{cond}
-use Prim.Native.Nat.{ℕ, _+_, _*_, _≤_, _<_}
+use Prim.Native.Nat.{ℕ, _*_, _≤_, _<_}
 use mathlib.Core.List.{List, []}
 use native.Mathlib.Omega.{arith}
 use native.Mathlib.Nat.{zero-add}
 use native.Mathlib.Decide.{decLt}
 use lib.ListN.{length, getD}
 use lib.Dec.{T, leb, ltb, le→leb, lt→ltb}
-use Rattle.lists.specs.Test.{allZero, zero-bytes, by-test, cond-yes, and-of}
+use Rattle.lists.specs.Test.{by-test, cond-yes, and-of}
 use Rattle.lists.specs.Table.{getD-table, getD-table-out}
-use Rattle.lists.specs.Word.{word}
+use Rattle.lists.specs.Word.{word, zero-word}
 use Rattle.tfs_rules.specs.Layout.{slots, blocks, block, slot, slotInode, slotFree, inRange, inodeSize}
 use Rattle.tfs_rules.specs.View.{View, view, viewN, inodeAt, free, inode, size}
 use Rattle.tfs_rules.specs.Consistent.{File, Inside}
 use Rattle.tfs_facts.specs.Stores.{length-block}
-
-pub zero-word : (l : List ℕ) (p : ℕ) → T (allZero l) → word l p ≡ 0
-unfolding word
-zero-word l p t =
-    omega (arith, zero-bytes l t p, zero-bytes l t (p + 1), zero-bytes l t (p + 2), zero-bytes l t (p + 3))
 
 -- a free slot has inode number 0
 pub free-inode : (v : View) (s : ℕ) → T (free v s) → inode v s ≡ 0

@@ -5,8 +5,8 @@ use Prim.Native.Nat.{ℕ, zero, suc, _+_, _≤_, _<_, min}
 use native.Mathlib.Numerals.{add-one}
 use native.Mathlib.Omega.{arith}
 use mathlib.Core.List.{List, [], _∷_, _++_}
-use lib.ListN.{length, getD, take, drop, set, length-set}
-use lib.Seq.{take-suc, drop-cons, drop-set-lt, append-snoc, set-at}
+use lib.ListN.{length, getD, drop, set}
+use lib.Seq.{drop-cons, drop-set-lt, append-snoc, set-at}
 use Rattle.lists.specs.Table.{table, length-table, getD-table, table-more}
 use Rattle.tfs_rules.specs.Layout.{mapBit, setBit, setBits, need, inodeSize, inodeNumber}
 use Rattle.tfs_rules.specs.View.{View, free, inode, size, number}

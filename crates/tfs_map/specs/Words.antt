@@ -2,23 +2,17 @@
 use mathlib.Core.Path.{_≡_, refl, sym, ap, _∙_}
 use mathlib.Core.Bool.{Bool, true, false, cond, _&&_}
 use Prim.Native.Nat.{ℕ, zero, suc, _+_, _-_, _*_, _/_, _%_, _≤_, _<_}
-use native.Mathlib.Numerals.{add-one}
 use native.Mathlib.Omega.{arith}
 use mathlib.Core.List.{List}
 use lib.ListN.{getD}
 use lib.Dec.{T, leb, eqb, leb→le, eqb→eq}
-use Rattle.lists.specs.Bits.{bitOf}
+use Rattle.lists.specs.Bits.{bitOf, bit-zero}
 use Rattle.lists.specs.Test.{to-true, of-true, and-l, and-r}
 use Rattle.spans.specs.Alike.{wordIs, word-filled}
 use Rattle.tfs_rules.specs.Layout.{mapByte, mapBit}
 use Rattle.tfs_map.specs.Free.{freeBelow, nextFree, free-held, free-more, next-past}
 
 -- ---- the bits of a word of one byte
-zero-bit : (k : ℕ) → bitOf 0 k ≡ 0
-unfolding bitOf
-zero-bit zero = refl
-zero-bit (suc k) = zero-bit k
-
 ones-bit : (k : ℕ) → k < 8 → bitOf 255 k ≡ 1
 unfolding bitOf
 ones-bit zero h = refl
@@ -48,7 +42,7 @@ word-zeros : (map : List ℕ) (k : ℕ) → wordIs map k 0 ≡ true → Filled m
 unfolding mapBit
 word-zeros map k e b h l =
     let w : b / 32 ≡ k = omega arith in
-    ap (λ (x : ℕ). eqb (bitOf x (b % 8)) 1) (word-byte map 0 b (ap (λ (i : ℕ). wordIs map i 0) w ∙ e)) ∙ ap (λ (x : ℕ). eqb x 1) (zero-bit (b % 8))
+    ap (λ (x : ℕ). eqb (bitOf x (b % 8)) 1) (word-byte map 0 b (ap (λ (i : ℕ). wordIs map i 0) w ∙ e)) ∙ ap (λ (x : ℕ). eqb x 1) (bit-zero (b % 8))
 
 -- ---- how many are free
 held-run : (map : List ℕ) (from n : ℕ) → Filled map from n true → freeBelow map (from + n) ≡ freeBelow map from

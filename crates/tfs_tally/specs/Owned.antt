@@ -1,18 +1,18 @@
 -- Rules 6 and 7 by a map of the claimed blocks.
-use mathlib.Core.Path.{_≡_, refl, sym, ap, _∙_, subst}
+use mathlib.Core.Path.{_≡_, refl, sym, ap, _∙_}
 use mathlib.Core.Logic.{_≢_}
 use mathlib.Core.Bool.{Bool, true, false, not, _||_, Bool·beq}
-use Prim.Native.Nat.{ℕ, suc, _+_, _≤_, _<_, min}
+use Prim.Native.Nat.{ℕ, suc, _+_, _≤_, _<_}
 use native.Mathlib.Omega.{arith}
-use native.Mathlib.Decide.{decLe, decLt, ℕ-discrete}
+use native.Mathlib.Decide.{decLe, ℕ-discrete}
 use mathlib.Core.List.{List, [], _∷_, _++_, append-nil, append-assoc}
 use lib.ListN.{length, length-replicate}
-use lib.Dec.{T, leb, ltb}
+use lib.Dec.{leb, ltb}
 use borrow.Author.Tests.{le-ltb, le-leb, lt-leb}
 use Rattle.lists.specs.Name.{zeros}
 use Rattle.lists.specs.Sum.{one-yes, one-no}
 use Rattle.lists.specs.Test.{of-true}
-use Rattle.lists.specs.Least.{least, least-le, least-hit, least-below, least-is, least-all, least-cong}
+use Rattle.lists.specs.Least.{least, least-all, least-more, least-cong}
 use Rattle.tfs_rules.specs.Layout.{mapByte, mapBit, setBit, setBits}
 use Rattle.tfs_rules.specs.View.{View}
 use Rattle.tfs_rules.specs.Check.{times, claimedTwice, badBit}
@@ -25,31 +25,6 @@ use Rattle.tfs_inode.specs.Claims.{Within, lowerOf, doubled, doubled-none, doub
 -- the map marks blocks 0 to 2 and the blocks of a list
 abbrev pub Marks : List ℕ → List ℕ → Type 0
 Marks owned cs = (b : ℕ) → b < 4096 → mapBit owned b ≡ (ltb b 3 || leb 1 (times b cs))
-
--- ---- one index more with a test
-module _ (f g : ℕ → Bool) (b : ℕ) (hit : T (g b)) (same : (k : ℕ) → k ≢ b → f k ≡ g k) where
-  past : (n i : ℕ) → i < least f n → i ≢ b → T (not (g i))
-  past n i h d = subst (λ (t : Bool). T (not t)) (same i d) (least-below f n i h)
-
-  least-more : (n : ℕ) → min b (least f n) ≡ least g n
-  least-more n =
-      elim (decLt b (least f n)) [
-        | yes h ↦
-            let e : min b (least f n) ≡ b = omega arith in
-            e ∙ sym (least-is g n b (omega (arith, least-le f n)) hit (λ i l. past n i (omega arith) (λ q. omega arith)))
-        | no h ↦
-            let e : min b (least f n) ≡ least f n = omega arith in
-            elim (decLt (least f n) n) [
-              | yes l ↦ e ∙ sym (least-is g n (least f n) l (at (ℕ-discrete (least f n) b) l) (λ i k. past n i k (λ q. omega arith)))
-              | no l ↦
-                  let z : least f n ≡ n = omega (arith, least-le f n) in
-                  e ∙ z ∙ sym (least-all g n (λ i k. past n i (omega arith) (λ q. omega arith)))
-            ]
-      ]
-    where
-      at : Dec (least f n ≡ b) → least f n < n → T (g (least f n))
-      at (yes e) l = subst (λ (k : ℕ). T (g k)) (sym e) hit
-      at (no e) l = subst T (same (least f n) e) (least-hit f n l)
 
 -- ---- one claim more
 times-same : (cs : List ℕ) (b : ℕ) → times b (cs ++ (b ∷ [])) ≡ times b cs + 1

@@ -1,6 +1,4 @@
 -- `four_same` meets its contract.
-use mathlib.Core.Path.{_≡_}
-use native.Mathlib.Omega.{arith}
 use Rattle.spans.specs.Alike.{four-same}
 use borrow.Author.Needs.{needs}
 use Rattle.spans.proofs.words.four_same.Statement.{statement}

@@ -1,8 +1,7 @@
 -- `claim_file` meets its contract: the inode's own block and the first k numbers are claimed.
-use mathlib.Core.Path.{_≡_, sym, ap, _∙_}
-use Prim.Native.Nat.{ℕ, _-_, _≤_, _<_}
+use mathlib.Core.Path.{_≡_, ap, _∙_}
+use Prim.Native.Nat.{_-_, _≤_, _<_}
 use native.Mathlib.Omega.{arith}
-use mathlib.Core.List.{List}
 use denote.Ref.{now}
 use Rattle.tfs_rules.specs.Layout.{setBits, need, inodeSize, inodeNumber}
 use Rattle.tfs_inode.specs.Claims.{numbersTo, doubled, claim-own, claim-number, marked-none, twice-none, marked-next, twice-next, marked-all, twice-all}

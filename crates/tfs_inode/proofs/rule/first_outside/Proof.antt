@@ -1,12 +1,12 @@
 -- `first_outside` meets its contract: no number before k is wrong.
 use mathlib.Core.Path.{_≡_, sym, ap, _∙_}
-use mathlib.Core.Bool.{Bool, not}
+use mathlib.Core.Bool.{not}
 use Prim.Native.Nat.{ℕ, _-_, _≤_}
 use native.Mathlib.Omega.{arith}
 use denote.Ref.{now}
 use borrow.Author.Count.{below-none, below-more}
 use Rattle.lists.specs.Least.{Below, found, none-found}
-use Rattle.tfs_rules.specs.Layout.{inRange, inodeNumber}
+use Rattle.tfs_rules.specs.Layout.{inRange}
 use Rattle.tfs_inode.specs.Wrong.{numberWrong, listed-wrong}
 use borrow.Author.Needs.{needs}
 use Rattle.tfs_inode.proofs.rule.first_outside.Statement.{statement}

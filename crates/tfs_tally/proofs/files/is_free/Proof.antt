@@ -1,5 +1,4 @@
 -- `is_free` meets its contract.
-use mathlib.Core.Path.{_≡_}
 use denote.Ref.{now}
 use Rattle.tfs_tally.specs.Files.{free-zero}
 use borrow.Author.Needs.{needs}
