@@ -1,6 +1,6 @@
 -- Tests as Booleans, and what they say.
 use mathlib.Core.Path.{_≡_, refl, sym, subst}
-use mathlib.Core.Bool.{Bool, true, false, not, cond, _&&_, _||_, Bool·beq}
+use mathlib.Core.Bool.{Bool, true, false, not, cond, _&&_, _||_}
 use Prim.Native.Nat.{ℕ, zero, suc, _<_}
 use mathlib.Core.List.{List, [], _∷_}
 use native.Mathlib.Omega.{arith}
@@ -64,18 +64,6 @@ pub no-and : (a b : Bool) → T (not a) → T (not (a && b))
 no-and true b t = absurd t
 no-and false b t = tt
 
-pub nor-of : (a b : Bool) → T (not a) → T (not b) → T (not (a || b))
-nor-of true b s t = s
-nor-of false b s t = t
-
-pub nor-l : (a b : Bool) → T (not (a || b)) → T (not a)
-nor-l true b t = t
-nor-l false b t = tt
-
-pub nor-r : (a b : Bool) → T (not (a || b)) → T (not b)
-nor-r true b t = absurd t
-nor-r false b t = t
-
 pub or-no-l : (a b : Bool) → (a || b) ≡ false → a ≡ false
 or-no-l true b e = e
 or-no-l false b e = refl
@@ -103,17 +91,6 @@ not-not false t = t
 pub yes-yes : (b : Bool) → T b → T (not (not b))
 yes-yes true t = tt
 yes-yes false t = t
-
--- two tests that say the same
-pub beq-eq : (a b : Bool) → T (Bool·beq a b) → a ≡ b
-beq-eq true true t = refl
-beq-eq true false t = absurd t
-beq-eq false true t = absurd t
-beq-eq false false t = refl
-
-pub beq-refl : (a : Bool) → T (Bool·beq a a)
-beq-refl true = tt
-beq-refl false = tt
 
 pub iff-eq : (a b : Bool) → (T a → T b) → (T b → T a) → a ≡ b
 iff-eq true true f g = refl

@@ -1,10 +1,10 @@
 -- Big-endian 32-bit words in lists of bytes.
 use mathlib.Core.Path.{_≡_, refl, ap, _∙_}
-use Prim.Native.Nat.{ℕ, zero, suc, _+_, _*_, _/_, _%_, _≤_, _<_}
+use Prim.Native.Nat.{ℕ, zero, suc, _+_, _*_, _/_, _%_, _<_}
 use mathlib.Core.List.{List, [], _∷_, _++_}
 use native.Mathlib.Omega.{arith}
-use lib.ListN.{length, getD, take, drop}
-use lib.Seq.{getD-take, getD-drop, getD-append-add}
+use lib.ListN.{length, getD}
+use lib.Seq.{getD-append-add}
 use lib.Dec.{T}
 use Rattle.lists.specs.Test.{allZero, zero-bytes}
 
@@ -52,12 +52,6 @@ words-at (n ∷ ns) rest zero h = word-bytes4 n (words ns ++ rest)
 words-at (n ∷ ns) rest (suc m) h =
     let e : 4 * suc m ≡ length (bytes4 n) + 4 * m = omega arith in
     ap (λ (p : ℕ). word (bytes4 n ++ (words ns ++ rest)) p) e ∙ word-skip (bytes4 n) (words ns ++ rest) (4 * m) ∙ words-at ns rest m (omega arith)
-
--- a word of a part is a word of the whole
-pub word-part : (l : List ℕ) (s n p : ℕ) → p + 4 ≤ n → word (take n (drop s l)) p ≡ word l (s + p)
-word-part l s n p h =
-    word-cong (take n (drop s l)) l p (s + p)
-    (λ j k. getD-take n (drop s l) (p + j) 0 (omega arith) ∙ getD-drop s l (p + j) 0 ∙ ap (λ (i : ℕ). getD l i 0) (omega arith))
 
 -- a word of zeros
 pub zero-word : (l : List ℕ) (p : ℕ) → T (allZero l) → word l p ≡ 0

@@ -5,14 +5,14 @@ use Prim.Native.Nat.{ℕ, zero, suc, _+_, _-_, _≤_, _<_}
 use native.Mathlib.Numerals.{add-one}
 use native.Mathlib.Omega.{arith}
 use mathlib.Core.List.{List, _∷_}
-use lib.ListN.{length, getD, take, drop}
-use lib.Seq.{drop-cons, length-take-le}
-use Rattle.lists.specs.Sum.{sum, count, count-le}
+use lib.ListN.{length, getD, drop}
+use lib.Seq.{drop-cons}
+use Rattle.lists.specs.Sum.{sum, count}
 use Rattle.tfs_rules.specs.Layout.{mapBit}
 use Rattle.tfs_rules.specs.View.{View, freeBlocks}
 use Rattle.tfs_rules.specs.Room.{free-below, free-member}
 use Rattle.tfs_rules.specs.Requests.{freeFrom}
-use Rattle.tfs_map.specs.Under.{Under, under-take}
+use Rattle.tfs_map.specs.Under.{Under}
 
 -- how many of the first n blocks are free
 unfoldable pub freeBelow : List ℕ → ℕ → ℕ
@@ -21,10 +21,6 @@ freeBelow map n = count (λ b. not (mapBit map b)) n
 pub free-blocks : (v : View) → freeBlocks v ≡ freeBelow (v .map) (v .n)
 unfolding freeBlocks freeBelow
 free-blocks v = refl
-
-pub free-le : (map : List ℕ) (n : ℕ) → freeBelow map n ≤ n
-unfolding freeBelow
-free-le map n = count-le (λ b. not (mapBit map b)) n
 
 -- one block more
 pub free-none : (map : List ℕ) → freeBelow map 0 ≡ 0
@@ -106,11 +102,3 @@ pub free-under : (map : List ℕ) (k d : ℕ) → Under (k + d) (freeFrom map k 
 free-under map k d i h = free-member map k d i h .high
 
 -- ---- the lowest of them, as pick takes them
-pub length-picked : (map : List ℕ) (n want : ℕ) → want ≤ length (freeFrom map 0 n) → length (take want (freeFrom map 0 n)) ≡ want
-length-picked map n want h = length-take-le want (freeFrom map 0 n) h
-
-pub picked-under : (map : List ℕ) (n want : ℕ) → Under n (take want (freeFrom map 0 n))
-picked-under map n want =
-    let z : 0 + n ≡ n = omega arith in
-    let u : Under n (freeFrom map 0 n) = rw z at (free-under map 0 n) in
-    under-take n want (freeFrom map 0 n) u

@@ -10,9 +10,6 @@ use lib.Seq.{getD-take, take-at}
 abbrev pub Under : ℕ → List ℕ → Type 0
 Under n l = (i : ℕ) → i < length l → getD l i 0 < n
 
-pub under-le : (m n : ℕ) (l : List ℕ) → m ≤ n → Under m l → Under n l
-under-le m n l h u i k = omega (arith, u i k)
-
 pub under-take : (n k : ℕ) (l : List ℕ) → Under n l → Under n (take k l)
 under-take n k l u i h =
     let short : i < k = omega (arith, length-take k l) in
@@ -30,6 +27,3 @@ module _ (out xs ys : List ℕ) (w : ℕ) (e : out ≡ xs ++ ys) (l : length xs 
 
   pub front-fits : w ≤ length out
   front-fits = rw e (omega (arith, length-append xs ys))
-
-  pub front-under : (n : ℕ) → Under n xs → Under n (take (w - 0) out)
-  front-under n u = rw front u
