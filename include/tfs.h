@@ -3,7 +3,7 @@
  *
  * Every request takes the whole image as a pointer and a length, of any
  * content and any length, and answers by value. No allocation, no global
- * state, no recursion, under 16 KiB of stack.
+ * state, no recursion, under 4 KiB of stack.
  *
  * What the caller must keep to:
  *  - a pointer is valid for the length beside it: readable where it is const,

@@ -12,7 +12,8 @@
 
 #define STACK (256 * 1024)
 #define PAINT 0xA5
-#define MOST (16 * 1024)
+#define TFS_MOST (4 * 1024)    /* as tfs.h says */
+#define ROMFS_MOST (16 * 1024) /* as romfs.h says */
 #define VOLUME (TFS_MAX_BLOCKS * TFS_BLOCK_SIZE)
 #define DEEPEST 8
 
@@ -148,7 +149,7 @@ int main(void)
         size_t used = depth(requests[i].run) - idle;
 
         printf("| %s | %lu |\n", requests[i].name, (unsigned long)used);
-        failed |= used > MOST || answer != 0;
+        failed |= used > (requests[i].name[0] == 'T' ? TFS_MOST : ROMFS_MOST) || answer != 0;
     }
     return failed;
 }
