@@ -4,7 +4,8 @@
  * Every request takes the whole image as a pointer and a length, of any
  * content and any length, and answers by value. Nothing is written. No
  * allocation, no global state; recursion is at most eight lists deep, under
- * 16 KiB of stack for any image.
+ * 16 KiB of stack for any image. The library needs memset, and uses SSE
+ * registers.
  *
  * What the caller must keep to:
  *  - a pointer is valid, readable, for the length beside it;

@@ -3,7 +3,8 @@
  *
  * Every request takes the whole image as a pointer and a length, of any
  * content and any length, and answers by value. No allocation, no global
- * state, no recursion, under 4 KiB of stack.
+ * state, no recursion, under 4 KiB of stack. The library needs memcpy and
+ * memset, and uses SSE registers.
  *
  * What the caller must keep to:
  *  - a pointer is valid for the length beside it: readable where it is const,
@@ -41,7 +42,8 @@ enum tfs_refusal {
     TFS_BAD_MAGIC = 2,        /* bytes 0 to 3 are not the magic number */
     TFS_BAD_LABEL = 3,        /* no zero in the 16 bytes of the volume's name */
     TFS_BAD_SLOT = 4,         /* slot neither free nor well formed, or a name twice; place: slot */
-    TFS_BAD_INODE = 5,        /* size or block number of the slot's inode out of range; place: slot */
+    TFS_BAD_INODE = 5,        /* size or block number of the slot's inode out of range, or a number past
+                                 its blocks not 0; place: slot */
     TFS_BLOCK_TWICE = 6,      /* block claimed twice; place: block */
     TFS_MAP_WRONG = 7,        /* map bit differs from the claims; place: block */
     TFS_NAME_NOT_ALLOWED = 8, /* empty (but for format), over 15 bytes, or holding a zero byte */
