@@ -1,5 +1,5 @@
 #!/usr/bin/env bash
-# Builds the proved libraries and the command line, then shows the main job on a sample volume.
+# Builds the proved libraries, the host programs and the C example, then shows the main job on a sample volume.
 set -euo pipefail
 cd "$(dirname "$0")/.."
 
@@ -7,7 +7,8 @@ echo "Building (the proofs are checked first: some minutes on a fresh machine)"
 for library in tfs_c romfs_c; do
     rt staticlib "$library" 2>&1 | tail -n 1
 done
-(cd host && cargo build --quiet --release --offline -p tfs)
+(cd host && cargo build --quiet --release --offline)
+gcc -std=c99 -O2 -Iinclude host/example/example.c target/staticlib/libtfs_c.a target/staticlib/libromfs_c.a -o target/example
 
 folder=$(mktemp -d)
 trap 'rm -rf "$folder"' EXIT
