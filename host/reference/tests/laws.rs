@@ -37,6 +37,58 @@ fn some_handle(random: &mut Random, made: &Volume) -> u32 {
     }
 }
 
+/// A name of the model, or any short name.
+fn some_name(random: &mut Random, model: &Files) -> Vec<u8> {
+    let length = random.between(1, 3);
+    match model.keys().nth(random.below(model.len() + 1)) {
+        Some(name) => name.clone(),
+        None => random.name(length),
+    }
+}
+
+/// Creates in the image and, if granted, in the model.
+fn create_in_both(random: &mut Random, image: &mut [u8], model: &mut Files, name: Vec<u8>) -> bool {
+    let size = random.below(2000);
+    let made = create(image, &name, size as u32);
+    if made.is_ok() {
+        assert_eq!(open(image, &name), made);
+        assert!(model.insert(name, vec![0; size]).is_none());
+    }
+    made.is_ok()
+}
+
+/// Removes from the image and from the model.
+fn remove_in_both(image: &mut [u8], model: &mut Files, name: &[u8]) -> bool {
+    let removed = remove(image, name);
+    assert_eq!(removed.is_ok(), model.remove(name).is_some());
+    removed.is_ok()
+}
+
+/// Writes to the image and, if granted, to the model.
+fn write_in_both(random: &mut Random, image: &mut [u8], model: &mut Files, name: &[u8]) -> bool {
+    let length = random.below(1500);
+    let bytes = random.bytes(length);
+    let offset = random.below(1500);
+    let handle = open(image, name);
+    let count = handle.and_then(|handle| write(image, handle, offset as u32, &bytes));
+    if let Ok(count) = count {
+        let count = count as usize;
+        let content = model.get_mut(name).unwrap();
+        assert_eq!(count, bytes.len().min(content.len() - offset));
+        content[offset..offset + count].copy_from_slice(&bytes[..count]);
+    }
+    count.is_ok()
+}
+
+/// The image is consistent, holds the files of the model, and has the rest of its room free.
+fn assert_holds(image: &[u8], blocks: usize, model: &Files) {
+    assert_eq!(check(image), Ok(()));
+    assert_eq!(files(image), *model);
+    let owned_by = |content: &Vec<u8>| 1 + content.len().div_ceil(512);
+    let owned: usize = model.values().map(owned_by).sum();
+    assert_eq!(free_bytes(image), Ok(512 * (blocks - 3 - owned) as u32));
+}
+
 #[test]
 fn requests_have_their_effect_and_no_other() {
     rounds(21, 150, |random, made| {
@@ -44,51 +96,14 @@ fn requests_have_their_effect_and_no_other() {
         let mut model = files(&image);
         for _ in 0..30 {
             let before = image.clone();
-            let length = random.between(1, 3);
-            let name = match model.keys().nth(random.below(model.len() + 1)) {
-                Some(name) => name.clone(),
-                None => random.name(length),
-            };
+            let name = some_name(random, &model);
             let granted = match random.below(3) {
-                0 => {
-                    let size = random.below(2000);
-                    let made = create(&mut image, &name, size as u32);
-                    if made.is_ok() {
-                        assert_eq!(open(&image, &name), made);
-                        assert!(model.insert(name, vec![0; size]).is_none());
-                    }
-                    made.is_ok()
-                }
-                1 => {
-                    let removed = remove(&mut image, &name);
-                    assert_eq!(removed.is_ok(), model.remove(&name).is_some());
-                    removed.is_ok()
-                }
-                _ => {
-                    let length = random.below(1500);
-                    let bytes = random.bytes(length);
-                    let offset = random.below(1500);
-                    let handle = open(&image, &name);
-                    let count =
-                        handle.and_then(|handle| write(&mut image, handle, offset as u32, &bytes));
-                    if let Ok(count) = count {
-                        let count = count as usize;
-                        let content = model.get_mut(&name).unwrap();
-                        assert_eq!(count, bytes.len().min(content.len() - offset));
-                        content[offset..offset + count].copy_from_slice(&bytes[..count]);
-                    }
-                    count.is_ok()
-                }
+                0 => create_in_both(random, &mut image, &mut model, name),
+                1 => remove_in_both(&mut image, &mut model, &name),
+                _ => write_in_both(random, &mut image, &mut model, &name),
             };
             assert!(granted || image == before);
-            assert_eq!(check(&image), Ok(()));
-            assert_eq!(files(&image), model);
-            let blocks = |content: &Vec<u8>| 1 + content.len().div_ceil(512);
-            let owned: usize = model.values().map(blocks).sum();
-            assert_eq!(
-                free_bytes(&image),
-                Ok(512 * (made.blocks - 3 - owned) as u32)
-            );
+            assert_holds(&image, made.blocks, &model);
             assert_eq!(image[512 * made.blocks..], before[512 * made.blocks..]);
         }
     });

@@ -282,8 +282,8 @@ fn the_lowest_link_counts_after_the_walk() {
     assert_eq!(check(&made(7 | 32)), at(27, 96));
 }
 
-#[test]
-fn requests_on_a_tree() {
+/// An allowed image: a directory with `..` and a file, a link to it, `.`, and a header not reached.
+fn tree() -> Vec<u8> {
     let mut made = image(
         256,
         &[
@@ -298,6 +298,12 @@ fn requests_on_a_tree() {
     made[128..149].copy_from_slice(b"twenty-one characters");
     seal(&mut made);
     assert_eq!(check(&made), Ok(()));
+    made
+}
+
+#[test]
+fn find_in_a_tree() {
+    let made = tree();
     assert_eq!(find(&made, 0, b"d"), Ok(32));
     assert_eq!(find(&made, 0, b"f"), at(30, 0));
     assert_eq!(find(&made, 32, b"f"), Ok(96));
@@ -307,6 +313,11 @@ fn requests_on_a_tree() {
     assert_eq!(find(&made, 192, b".."), at(30, 0));
     assert_eq!(find(&made, 160, b"f"), at(31, 0));
     assert_eq!(find(&made, 224, b"f"), at(31, 0));
+}
+
+#[test]
+fn content_in_a_tree() {
+    let made = tree();
     assert_eq!(content(&made, 96), b"twenty-one characters");
     assert_eq!(content(&made, 96).as_ptr(), made[128..].as_ptr());
     assert_eq!(content_length(&made, 96), Ok(21));
@@ -314,12 +325,21 @@ fn requests_on_a_tree() {
         assert_eq!(content_length(&made, other), at(31, 0));
         assert!(content(&made, other).is_empty());
     }
-    let seen = entry(&made, 64).unwrap();
+}
+
+#[test]
+fn an_entry_in_a_tree() {
+    let seen = entry(&tree(), 64).unwrap();
     assert_eq!(
         (seen.kind, seen.executable, seen.spec_info),
         (Kind::Directory, true, 32)
     );
     assert_eq!((seen.size, seen.next, seen.name_length), (0, 96, 2));
+}
+
+#[test]
+fn a_damaged_tree_is_refused_whatever_is_asked() {
+    let mut made = tree();
     made[40] ^= 1;
     assert_eq!(find(&made, 7, b""), at(24, 0));
     assert_eq!(content_length(&made, 96), at(24, 0));

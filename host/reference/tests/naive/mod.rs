@@ -22,28 +22,53 @@ pub fn tfs_fault(image: &[u8]) -> Fault {
     if (4..20).all(|at| image[at] != 0) {
         return Some((3, 0));
     }
-    let slot = |s: usize| &image[1024 + 20 * s..1044 + 20 * s];
-    let name = |s: usize| slot(s)[4..].to_vec();
-    let free = |s: usize| slot(s).iter().all(|&byte| byte == 0);
-    let used = |s: usize| {
-        let inode = number(slot(s), 0);
-        (3..n).contains(&inode)
-            && (1..=15)
-                .any(|length| (0..16).all(|index| (slot(s)[4 + index] != 0) == (index < length)))
-    };
+    slot_fault(image, n)
+        .or_else(|| inode_fault(image, n))
+        .or_else(|| claim_fault(image))
+        .or_else(|| map_fault(image, n))
+}
+
+fn slot(image: &[u8], s: usize) -> &[u8] {
+    &image[1024 + 20 * s..1044 + 20 * s]
+}
+
+fn is_free(slot: &[u8]) -> bool {
+    slot.iter().all(|&byte| byte == 0)
+}
+
+fn is_used(slot: &[u8], n: usize) -> bool {
+    (3..n).contains(&number(slot, 0))
+        && (1..=15).any(|length| (0..16).all(|index| (slot[4 + index] != 0) == (index < length)))
+}
+
+/// Rule 4: each slot is free or used, and no name stands twice.
+fn slot_fault(image: &[u8], n: usize) -> Fault {
+    let name = |s: usize| &slot(image, s)[4..];
     for s in 0..25 {
-        if !(free(s) || used(s)) || (!free(s) && (0..s).any(|lower| name(lower) == name(s))) {
+        let free = is_free(slot(image, s));
+        let used = is_used(slot(image, s), n);
+        if !(free || used) || (!free && (0..s).any(|lower| name(lower) == name(s))) {
             return Some((4, s as u32));
         }
     }
-    let used: Vec<usize> = (0..25).filter(|&s| !free(s)).collect();
-    let listed = |s: usize| {
-        let at = 512 * number(slot(s), 0);
-        let numbers: Vec<usize> = (0..127).map(|i| number(image, at + 4 + 4 * i)).collect();
-        (number(image, at), numbers)
-    };
-    for &s in &used {
-        let (size, numbers) = listed(s);
+    None
+}
+
+fn used_slots(image: &[u8]) -> Vec<usize> {
+    (0..25).filter(|&s| !is_free(slot(image, s))).collect()
+}
+
+/// The size and all block numbers in the inode of a slot.
+fn inode(image: &[u8], s: usize) -> (usize, Vec<usize>) {
+    let at = 512 * number(slot(image, s), 0);
+    let numbers = (0..127).map(|i| number(image, at + 4 + 4 * i)).collect();
+    (number(image, at), numbers)
+}
+
+/// Rule 5: an inode's size is allowed, its block numbers are of the volume, the rest zero.
+fn inode_fault(image: &[u8], n: usize) -> Fault {
+    for s in used_slots(image) {
+        let (size, numbers) = inode(image, s);
         let count = size.div_ceil(512);
         let outside = |(i, b): (usize, &usize)| {
             if i < count {
@@ -56,17 +81,32 @@ pub fn tfs_fault(image: &[u8]) -> Fault {
             return Some((5, s as u32));
         }
     }
-    let mut claims: BTreeMap<usize, u32> = BTreeMap::new();
-    for &s in &used {
-        let (size, numbers) = listed(s);
-        *claims.entry(number(slot(s), 0)).or_default() += 1;
+    None
+}
+
+/// How often each block is claimed, as an inode or by one.
+fn claims(image: &[u8]) -> BTreeMap<usize, u32> {
+    let mut claims = BTreeMap::new();
+    for s in used_slots(image) {
+        let (size, numbers) = inode(image, s);
+        *claims.entry(number(slot(image, s), 0)).or_default() += 1;
         for &b in &numbers[..size.div_ceil(512)] {
             *claims.entry(b).or_default() += 1;
         }
     }
-    if let Some((&b, _)) = claims.iter().find(|(_, &count)| count > 1) {
-        return Some((6, b as u32));
-    }
+    claims
+}
+
+/// Rule 6: no block is claimed twice.
+fn claim_fault(image: &[u8]) -> Fault {
+    let claims = claims(image);
+    let twice = claims.iter().find(|(_, &count)| count > 1);
+    twice.map(|(&b, _)| (6, b as u32))
+}
+
+/// Rule 7: the map has the bits of the first three blocks and of the claimed ones.
+fn map_fault(image: &[u8], n: usize) -> Fault {
+    let claims = claims(image);
     for b in 0..n {
         let bit = number(image, 512 + 4 * (b / 32)) >> (b % 32) & 1 == 1;
         if bit != (b < 3 || claims.contains_key(&b)) {
@@ -131,6 +171,45 @@ pub fn romfs_fault(image: &[u8]) -> Fault {
     None
 }
 
+/// A header as it stands in the image, with the offset where its content ends, padded.
+struct Header<'a> {
+    next: usize,
+    kind: usize,
+    spec: usize,
+    name: &'a [u8],
+    end: usize,
+}
+
+/// Rule 26: the header at `p`, if it is whole and its fields are allowed.
+fn header(image: &[u8], p: usize, bound: usize) -> Option<Header<'_>> {
+    if p + 16 > bound {
+        return None;
+    }
+    let name_end = (p + 16..bound).find(|&at| image[at] == 0)?;
+    let name = &image[p + 16..name_end];
+    let (first_word, spec, size) = (number(image, p), number(image, p + 4), number(image, p + 8));
+    let data = p + 16 + pad(name.len() + 1);
+    let end = data + pad(size);
+    let kind = first_word % 8;
+    if end > bound
+        || name.is_empty()
+        || words_sum(image, p, data) != 0
+        || ([2, 3, 6, 7].contains(&kind) && spec != 0)
+        || (![2, 3].contains(&kind) && size != 0)
+    {
+        return None;
+    }
+    let next = first_word / 16 * 16;
+    Some(Header {
+        next,
+        kind,
+        spec,
+        name,
+        end,
+    })
+}
+
+/// Rules 26 to 28 for the list that begins at `p`, and for the lists below it.
 fn walk_list(
     image: &[u8],
     p: usize,
@@ -138,38 +217,25 @@ fn walk_list(
     depth: usize,
     seen: &mut HashMap<usize, Seen>,
 ) -> Result<(), (u32, u32)> {
-    let fault = |rule| Err((rule, p as u32));
-    if p + 16 > bound {
-        return fault(26);
-    }
-    let Some(name_end) = (p + 16..bound).find(|&at| image[at] == 0) else {
-        return fault(26);
-    };
-    let name = &image[p + 16..name_end];
-    let (first_word, spec, size) = (number(image, p), number(image, p + 4), number(image, p + 8));
-    let data = p + 16 + pad(name.len() + 1);
-    let e = data + pad(size);
-    let kind = first_word % 8;
-    if e > bound
-        || name.is_empty()
-        || words_sum(image, p, data) != 0
-        || ([2, 3, 6, 7].contains(&kind) && spec != 0)
-        || (![2, 3].contains(&kind) && size != 0)
-    {
-        return fault(26);
-    }
-    let next = first_word / 16 * 16;
-    if next != 0 && (next < e || next >= bound) {
-        return fault(27);
+    let fault = |rule| (rule, p as u32);
+    let Header {
+        next,
+        kind,
+        spec,
+        name,
+        end,
+    } = header(image, p, bound).ok_or(fault(26))?;
+    if next != 0 && (next < end || next >= bound) {
+        return Err(fault(27));
     }
     let own = if next == 0 { bound } else { next };
     let dot = kind == 1 && (name == b"." || name == b"..");
     let descends = kind == 1 && !dot && spec != 0;
-    if descends && (!spec.is_multiple_of(16) || spec < e || spec >= own) {
-        return fault(27);
+    if descends && (!spec.is_multiple_of(16) || spec < end || spec >= own) {
+        return Err(fault(27));
     }
     if descends && depth == 8 {
-        return fault(28);
+        return Err(fault(28));
     }
     seen.insert(p, Seen { kind, spec, dot });
     if descends {
