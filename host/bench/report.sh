@@ -26,6 +26,8 @@ the tests depends on a time.
 All are run in turn in one process, in batches of about 0.1 ms, and the best batch of 2,000 rounds counts (of fewer rounds where
 one operation lasts long). Every request but format checks the whole volume first, so each time has a check in it.
 
+Times less the check are differences of two measurements, and vary most from run to run.
+
 A volume of 2 MiB is full when its 25 slots are used: 25 files of 65,024 bytes have 3,200 of its 4,093 blocks. There, create and
 remove are timed as remove and create.
 TEXT
