@@ -1,9 +1,1 @@
-pub mod Test
-pub mod Least
-pub mod Sum
-pub mod Table
-pub mod Name
-pub mod Word
-pub mod Bits
-pub mod Part
-pub mod Store
+pub mod Lists

@@ -1,1 +1,1 @@
-// Lists of bytes: the definitions and laws that both filesystems share. No code: see specs/.
+// The functions on lists of bytes that the definitions and statements of both filesystems are made of. No code: see specs/.

@@ -9,18 +9,17 @@ use native.Mathlib.Nat.{add-sub-cancel-left}
 use borrow.Author.Tests.{eq-eqb, ne-eqb}
 use lib.ListN.{length, take, drop}
 use lib.Dec.{eqb}
-use Rattle.lists.specs.Test.{sameList}
-use Rattle.lists.specs.Part.{part}
-use Rattle.romfs_rules.specs.Layout.{fullSize, pad16, firstRoot, nameLength, kind, executable, next, info, size, name, contentAt, afterName, hasData}
-use Rattle.romfs_rules.specs.Rules.{Verdict, accepted}
-use Rattle.romfs_rules.specs.Reached.{along, IsReached}
-use Rattle.romfs_rules.specs.Check.{isReached, check}
-use Rattle.romfs_rules.specs.Answers as answers
-use Rattle.romfs_rules.specs.Answers.{Answer, granted, denied, checked, firstOf, matchFrom, matchIn, isDirectory, found, Entry, entryAt, described, measured, partOf, startOf}
-use Rattle.romfs_rules.specs.Walked.{volume-of, sound}
-use Rattle.romfs_rules.specs.Theorems.{check-parts}
-use Rattle.romfs_rules.specs.Find.{match-yes, match-end, match-next}
-use Rattle.romfs_rules.specs.Given.{Content}
+use Rattle.lists.specs.Lists.{sameList, part}
+use Rattle.romfs_spec.specs.Layout.{fullSize, pad16, firstRoot, nameLength, kind, executable, next, info, size, name, contentAt, afterName, hasData}
+use Rattle.romfs_spec.specs.Rules.{Verdict, accepted}
+use Rattle.romfs_spec.specs.Reached.{along, IsReached}
+use Rattle.romfs_spec.specs.Check.{isReached, check}
+use Rattle.romfs_spec.specs.Answers as answers
+use Rattle.romfs_spec.specs.Answers.{Answer, granted, denied, checked, firstOf, matchFrom, matchIn, isDirectory, found, Entry, entryAt, described, measured, partOf, startOf}
+use Rattle.romfs_proofs.specs.Walked.{volume-of, sound}
+use Rattle.romfs_proofs.specs.Theorems.{check-parts}
+use Rattle.romfs_proofs.specs.Find.{match-yes, match-end, match-next}
+use Rattle.romfs_proofs.specs.Given.{Content}
 use Rattle.romfs_check.specs.Known.{Walked}
 use Rattle.romfs_check.specs.Told.{toldFault}
 use Rattle.romfs.specs.Told.{toldUnsound}

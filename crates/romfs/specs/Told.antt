@@ -3,7 +3,7 @@ use Prim.Native.Nat.{ℕ, _+_, _≤_}
 use mathlib.Core.List.{List}
 use denote.Ref.{RefT}
 use mathlib.Core.Path.{_≡_}
-use Rattle.romfs_rules.specs.Answers.{Answer, granted, denied, Entry}
+use Rattle.romfs_spec.specs.Answers.{Answer, granted, denied, Entry}
 use Rattle.romfs_check.specs.declared.Fault.{Fault}
 use Rattle.romfs_check.specs.declared.Fault.the-variants as fault
 use Rattle.romfs_check.specs.Told.{FaultFits}

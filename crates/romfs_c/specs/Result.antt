@@ -1,7 +1,7 @@
 -- What a result of the C interface tells: an answer of the rules, as numbers.
 use Prim.Native.Nat.{ℕ}
 use mathlib.Core.Path.{_≡_, refl, ap, subst, _∙_}
-use Rattle.romfs_rules.specs.Answers.{Answer, granted, denied, Entry, checked, startOf}
+use Rattle.romfs_spec.specs.Answers.{Answer, granted, denied, Entry, checked, startOf}
 use Rattle.romfs_check.specs.declared.Fault.{Fault}
 use Rattle.romfs_check.specs.declared.Fault.the-variants as fault
 use Rattle.romfs_check.specs.declared.CheckAnswer.{CheckAnswer}

@@ -1,9 +1,9 @@
 // The romfs requests for C. The header is romfs.h; a slice passes as a pointer and then a length.
 ghost use mathlib.Core.Path.{_≡_};
-ghost use Rattle.romfs_rules.specs.Layout.{contentAt};
-ghost use Rattle.romfs_rules.specs.Check as rules;
-ghost use Rattle.romfs_rules.specs.Answers as answers;
-ghost use Rattle.romfs_rules.specs.Answers.{checked, granted};
+ghost use Rattle.romfs_spec.specs.Layout.{contentAt};
+ghost use Rattle.romfs_spec.specs.Check as rules;
+ghost use Rattle.romfs_spec.specs.Answers as answers;
+ghost use Rattle.romfs_spec.specs.Answers.{checked, granted};
 ghost use Rattle.romfs.specs.Told.{toldUnsound, toldFind, toldEntry, toldContent};
 ghost use Rattle.romfs_c.specs.Result.{checkedAnswer, resultOf, headerOf, contentOf, Tells, TellsHeader, TellsPart};
 use romfs::ContentAnswer;

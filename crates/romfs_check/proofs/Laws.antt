@@ -8,17 +8,17 @@ use native.Mathlib.Omega.{arith}
 use borrow.Author.Tests.{eq-eqb, ne-eqb, lt-ltb, le-ltb, ltb-false}
 use lib.Dec.{ltb, eqb}
 use lib.ListN.{length}
-use Rattle.romfs_rules.specs.Layout.{fullSize, firstRoot, nameLength, nameEnds, wordSum, kind, next, info, own, isDots, hasList}
-use Rattle.romfs_rules.specs.Rules as rules
-use Rattle.romfs_rules.specs.Rules.{Verdict, accepted, refused, short21, magic22, size23, sum24, name25}
-use Rattle.romfs_rules.specs.Reached.{Reached, root, along, inside, IsReached, Sound}
-use Rattle.romfs_rules.specs.Check.{andThen, visitList, visitEntry, visitAll, walk, volume, links, check, leads, towards, seek, isReached, badLink}
-use Rattle.lists.specs.Test.{or-no-l, or-no-r}
-use Rattle.romfs_rules.specs.Facts.{room, ends, next-from, next-to, own-to, first-to, depth-to, fault-sound, fault-number, list-descends, list-first}
-use Rattle.romfs_rules.specs.Visit.{list-refused, list-last, list-next, entry-refused, entry-leaf, entry-list, entry-test}
-use Rattle.romfs_rules.specs.Walked.{Volume, full-from, full-to, root-to, visit-none, visit-root, sound, reached-in, reached-room}
-use Rattle.romfs_rules.specs.Links.{linkFault}
-use Rattle.romfs_rules.specs.Seek.{seek-here, seek-none, seek-on, seek-reached, reached-is, is-none, is-seek, towards-reached, towards-further}
+use Rattle.romfs_spec.specs.Layout.{fullSize, firstRoot, nameLength, nameEnds, wordSum, kind, next, info, own, isDots, hasList}
+use Rattle.romfs_spec.specs.Rules as rules
+use Rattle.romfs_spec.specs.Rules.{Verdict, accepted, refused, short21, magic22, size23, sum24, name25}
+use Rattle.romfs_spec.specs.Reached.{Reached, root, along, inside, IsReached, Sound}
+use Rattle.romfs_spec.specs.Check.{andThen, visitList, visitEntry, visitAll, walk, volume, links, check, leads, towards, seek, isReached, badLink}
+use Rattle.list_laws.specs.Test.{or-no-l, or-no-r}
+use Rattle.romfs_proofs.specs.Facts.{room, ends, next-from, next-to, own-to, first-to, depth-to, fault-sound, fault-number, list-descends, list-first}
+use Rattle.romfs_proofs.specs.Visit.{list-refused, list-last, list-next, entry-refused, entry-leaf, entry-list, entry-test}
+use Rattle.romfs_proofs.specs.Walked.{Volume, full-from, full-to, root-to, visit-none, visit-root, sound, reached-in, reached-room}
+use Rattle.romfs_proofs.specs.Links.{linkFault}
+use Rattle.romfs_proofs.specs.Seek.{seek-here, seek-none, seek-on, seek-reached, reached-is, is-none, is-seek, towards-reached, towards-further}
 use Rattle.romfs_headers.specs.Known.{Whole, Reads, stepOf, step-reads}
 use Rattle.romfs_check.specs.Known.{Walked, Lies}
 use Rattle.romfs_check.specs.Facts.{reach-room, sound-next}

@@ -5,10 +5,10 @@ use mathlib.Core.Logic.{_≢_}
 use mathlib.Core.List.{List}
 use native.Mathlib.Omega.{arith}
 use lib.ListN.{length}
-use Rattle.romfs_rules.specs.Layout.{fullSize, next}
-use Rattle.romfs_rules.specs.Reached.{IsReached, Sound}
-use Rattle.romfs_rules.specs.Facts.{room, next-from, next-to}
-use Rattle.romfs_rules.specs.Walked.{Volume, full-from, full-to, reached-room}
+use Rattle.romfs_spec.specs.Layout.{fullSize, next}
+use Rattle.romfs_spec.specs.Reached.{IsReached, Sound}
+use Rattle.romfs_proofs.specs.Facts.{room, next-from, next-to}
+use Rattle.romfs_proofs.specs.Walked.{Volume, full-from, full-to, reached-room}
 use Rattle.romfs_headers.specs.Known.{Whole}
 use Rattle.romfs_check.specs.Known.{Walked}
 use Rattle.romfs_check.specs.Told.{FaultFits, CheckFits}

@@ -11,9 +11,10 @@ use borrow.Author.Tests.{lt-ltb}
 use lib.ListN.{length, getD, set, replicate}
 use lib.Seq.{set-out, getD-set-same, getD-set-other}
 use lib.Dec.{ltb, eqb}
-use Rattle.lists.specs.Least.{least, Below, found, none-found}
-use Rattle.romfs_rules.specs.Reached.{IsReached}
-use Rattle.romfs_rules.specs.Check.{leads}
+use Rattle.lists.specs.Lists.{least}
+use Rattle.list_laws.specs.Least.{Below, found, none-found}
+use Rattle.romfs_spec.specs.Reached.{IsReached}
+use Rattle.romfs_spec.specs.Check.{leads}
 
 -- where the eight marks of the part with offset p stand
 unfoldable pub rowOf : ℕ → ℕ → ℕ

@@ -1,6 +1,6 @@
 -- What an answer of the check tells: number and place.
 use Prim.Native.Nat.{_≤_}
-use Rattle.romfs_rules.specs.Rules.{Verdict, accepted, refused}
+use Rattle.romfs_spec.specs.Rules.{Verdict, accepted, refused}
 use Rattle.romfs_check.specs.declared.Fault.{Fault}
 use Rattle.romfs_check.specs.declared.Fault.the-variants as fault
 use Rattle.romfs_check.specs.declared.CheckAnswer.{CheckAnswer}

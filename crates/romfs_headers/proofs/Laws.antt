@@ -10,14 +10,13 @@ use borrow.Author.Tests.{eq-eqb, ne-eqb, ltb-false, lt-ltb, le-leb, lt-leb}
 use lib.Dec.{leb, ltb, eqb}
 use lib.ListN.{length, getD}
 use lib.Seq.{ext-getD}
-use Rattle.lists.specs.Test.{sameList, to-true, to-false, same-eq, same-refl}
-use Rattle.lists.specs.Name.{zeroAt}
-use Rattle.lists.specs.Word.{word}
-use Rattle.lists.specs.Part.{part, getD-part, length-part}
-use Rattle.lists.specs.Least.{Below, found, none-found}
-use Rattle.romfs_rules.specs.Layout.{fullSize, nameLength, wordSum, next, info, endOf, own, hasList}
-use Rattle.romfs_rules.specs.Rules.{accepted, refused, overBound, badHeader, badNext, badFirst, badNesting, tooDeep, fault}
-use Rattle.romfs_rules.specs.Facts.{room}
+use Rattle.lists.specs.Lists.{sameList, zeroAt, word, part}
+use Rattle.list_laws.specs.Test.{to-true, to-false, same-eq, same-refl}
+use Rattle.list_laws.specs.Part.{getD-part, length-part}
+use Rattle.list_laws.specs.Least.{Below, found, none-found}
+use Rattle.romfs_spec.specs.Layout.{fullSize, nameLength, wordSum, next, info, endOf, own, hasList}
+use Rattle.romfs_spec.specs.Rules.{accepted, refused, overBound, badHeader, badNext, badFirst, badNesting, tooDeep, fault}
+use Rattle.romfs_proofs.specs.Facts.{room}
 
 -- ---- sums
 pub sum-more : (s : List ℕ) (p n : ℕ) → wordSum s p (n + 1) ≡ (wordSum s p n + word s (p + 4 * n)) % 2 ^ 32

@@ -4,9 +4,9 @@ use mathlib.Core.Path.{_≡_, refl, ap, _∙_}
 use mathlib.Core.Bool.{Bool, true, false}
 use mathlib.Core.List.{List}
 use lib.ListN.{length}
-use Rattle.romfs_rules.specs.Layout.{fullSize, nameLength, info, own, hasList}
-use Rattle.romfs_rules.specs.Rules.{Verdict, accepted, refused, fault}
-use Rattle.romfs_rules.specs.Facts.{fault-place}
+use Rattle.romfs_spec.specs.Layout.{fullSize, nameLength, info, own, hasList}
+use Rattle.romfs_spec.specs.Rules.{Verdict, accepted, refused, fault}
+use Rattle.romfs_proofs.specs.Facts.{fault-place}
 use Rattle.romfs_headers.specs.declared.Step.{Step}
 use Rattle.romfs_headers.specs.declared.Step.the-variants as step
 

@@ -4,11 +4,9 @@ ghost use mathlib.Core.Bool.{not, cond, _&&_, _||_};
 ghost use lib.Dec.{leb, ltb, eqb};
 ghost use Prim.Native.Nat.{_+_, _*_, _/_, _%_, _≤_, _<_};
 ghost use lib.ListN.{length};
-ghost use Rattle.lists.specs.Test.{sameList};
-ghost use Rattle.lists.specs.Word.{word};
-ghost use Rattle.lists.specs.Part.{part};
-ghost use Rattle.romfs_rules.specs.Layout.{pad16, nameLength, fullSize, firstRoot, kind, executable, next, info, size, endOf, isDots, descends, hasData, wordSum};
-ghost use Rattle.romfs_rules.specs.Rules.{overBound, badName, badSum, badInfo, badSize, badHeader};
+ghost use Rattle.lists.specs.Lists.{sameList, word, part};
+ghost use Rattle.romfs_spec.specs.Layout.{pad16, nameLength, fullSize, firstRoot, kind, executable, next, info, size, endOf, isDots, descends, hasData, wordSum};
+ghost use Rattle.romfs_spec.specs.Rules.{overBound, badName, badSum, badInfo, badSize, badHeader};
 ghost use Rattle.romfs_headers.specs.Known.{Whole, Head, stepOf};
 use spans::words::be32;
 

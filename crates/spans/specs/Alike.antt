@@ -6,8 +6,8 @@ use native.Mathlib.Omega.{arith}
 use mathlib.Core.List.{List}
 use lib.ListN.{getD}
 use lib.Dec.{T, eqb, eqb→eq}
-use Rattle.lists.specs.Test.{and-of, and-l, and-r, not-not, of-true, iff-eq, eqb-of}
-use Rattle.lists.specs.Word.{wordOf}
+use Rattle.list_laws.specs.Test.{and-of, and-l, and-r, not-not, of-true, iff-eq, eqb-of}
+use Rattle.lists.specs.Lists.{wordOf}
 
 -- whether four bytes are the same as four others
 abbrev pub fourSame : ℕ → ℕ → ℕ → ℕ → ℕ → ℕ → ℕ → ℕ → Bool

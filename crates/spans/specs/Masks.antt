@@ -5,7 +5,7 @@ use native.Mathlib.Nat.{pow-succ', mod-eq-of-lt, le-of-suc-le-suc}
 use native.Mathlib.Omega.{arith}
 use lib.Bits.{bitOr, bitAnd, or-step, or-zero-r, and-step, and-mask}
 use lib.Pow.{pow-pos, pow-lt}
-use Rattle.lists.specs.Bits.{withBit}
+use Rattle.lists.specs.Lists.{withBit}
 
 -- the mask sets bit k
 pub or-with : (n k : ℕ) → bitOr n (2 ^ k) ≡ withBit n k 1

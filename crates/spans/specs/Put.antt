@@ -6,8 +6,7 @@ use native.Mathlib.Omega.{arith}
 use mathlib.Core.List.{List, append-assoc}
 use lib.ListN.{length, set, take, drop}
 use lib.Seq.{sets-eq, drop-drop}
-use Rattle.lists.specs.Word.{bytes4}
-use Rattle.lists.specs.Part.{withPart}
+use Rattle.lists.specs.Lists.{bytes4, withPart}
 
 -- four stores put a word
 pub put-four : (l : List ℕ) (at v : ℕ) → at + 4 ≤ length l → set (set (set (set l at (v / 256 / 256 / 256)) (at + 1) (v / 256 / 256 % 256)) (at + 2) (v / 256 % 256)) (at + 3) (v % 256) ≡ withPart at 4 (bytes4 v) l

@@ -7,7 +7,8 @@ use mathlib.Core.List.{List}
 use lib.ListN.{length, getD, drop, drop-of-length-le}
 use lib.Seq.{drop-cons}
 use borrow.Author.Tests.{eq-eqb, ne-eqb}
-use Rattle.lists.specs.Test.{sameList, same-eq, to-false}
+use Rattle.lists.specs.Lists.{sameList}
+use Rattle.list_laws.specs.Test.{same-eq, to-false}
 
 -- lists of different lengths differ
 pub same-length : (a b : List ℕ) → (length a ≡ length b → ⊥) → sameList a b ≡ false

@@ -10,8 +10,9 @@ use lib.ListN.{length, getD, drop, drop-of-length-le}
 use lib.Seq.{drop-cons}
 use lib.Dec.{eqb}
 use borrow.Author.Tests.{eq-eqb, ne-eqb}
-use Rattle.lists.specs.Test.{allZero, all-zero, to-true, to-false}
-use Rattle.lists.specs.Word.{word, zero-word}
+use Rattle.lists.specs.Lists.{allZero, word}
+use Rattle.list_laws.specs.Test.{all-zero, to-true, to-false}
+use Rattle.list_laws.specs.Word.{zero-word}
 
 -- all zero from index i on
 pub zeros-end : (l : List ℕ) (i : ℕ) → length l ≤ i → allZero (drop i l) ≡ true

@@ -1,7 +1,7 @@
 // One bit of a byte.
 ghost use mathlib.Core.Path.{_≡_};
 ghost use Prim.Native.Nat.{_<_};
-ghost use Rattle.lists.specs.Bits.{bitOf, withBit};
+ghost use Rattle.lists.specs.Lists.{bitOf, withBit};
 
 // Bit k of x.
 pub fn bit_of(x: u8, k: u32) -> u8

@@ -1,7 +1,6 @@
 // Searches and tests of every byte.
 ghost use mathlib.Core.Path.{_≡_};
-ghost use Rattle.lists.specs.Test.{allZero, sameList};
-ghost use Rattle.lists.specs.Name.{firstZero};
+ghost use Rattle.lists.specs.Lists.{allZero, sameList, firstZero};
 
 // The index of the first zero byte, or the length.
 pub fn first_zero(p: &[u8]) -> usize

@@ -2,10 +2,7 @@
 ghost use mathlib.Core.Path.{_≡_};
 ghost use Prim.Native.Nat.{_+_, _*_, _≤_};
 ghost use lib.ListN.{length};
-ghost use Rattle.lists.specs.Test.{allZero};
-ghost use Rattle.lists.specs.Word.{wordOf, word, bytes4};
-ghost use Rattle.lists.specs.Part.{withPart};
-ghost use Rattle.lists.specs.Least.{least};
+ghost use Rattle.lists.specs.Lists.{allZero, wordOf, word, bytes4, withPart, least};
 ghost use Rattle.spans.specs.Alike.{fourSame, wordIs, wordSame, wordDiffers};
 
 // The word of four bytes, the first the most significant.

@@ -6,25 +6,20 @@ use native.Mathlib.Omega.{arith}
 use mathlib.Core.List.{List, [], _∷_}
 use lib.ListN.{length}
 use lib.Dec.{ltb, ltb→lt, lit<, lit≤}
-use Rattle.lists.specs.Test.{to-false}
-use Rattle.lists.specs.Least.{least}
-use Rattle.lists.specs.Sum.{sum}
-use Rattle.lists.specs.Name.{zeros, zeroAt, firstZero, upToZero}
-use Rattle.lists.specs.Word.{word, words}
-use Rattle.lists.specs.Bits.{bitOf, withBit}
-use Rattle.lists.specs.Part.{part, withPart}
-use Rattle.tfs_rules.specs.Layout.{need, blocks, block, setBlock, mapBit, setBit, slot, setSlot, slotInode, slotName, slotFree, nameFormed, slotUsed, sameName, entry, inodeSize, inodeNumber, inodeBlock, labelAllowed, nameAllowed}
-use Rattle.tfs_rules.specs.View.{inodeAt, viewN, view, free, used, inode, name, size, number, slotOf, slotWith, freeSlot, freeBlocks}
-use Rattle.tfs_rules.specs.Check.{consistent, tooShort, badMagic, badLabel, repeats, badSlot, badNumber, badInode, fileClaims, claimsTo, claims, checkView, check}
+use Rattle.list_laws.specs.Test.{to-false}
+use Rattle.lists.specs.Lists.{least, sum, zeros, zeroAt, firstZero, upToZero, word, words, bitOf, withBit, part, withPart}
+use Rattle.tfs_spec.specs.Layout.{need, blocks, block, setBlock, mapBit, setBit, slot, setSlot, slotInode, slotName, slotFree, nameFormed, slotUsed, sameName, entry, inodeSize, inodeNumber, inodeBlock, labelAllowed, nameAllowed}
+use Rattle.tfs_spec.specs.View.{inodeAt, viewN, view, free, used, inode, name, size, number, slotOf, slotWith, freeSlot, freeBlocks}
+use Rattle.tfs_spec.specs.Check.{consistent, tooShort, badMagic, badLabel, repeats, badSlot, badNumber, badInode, fileClaims, claimsTo, claims, checkView, check}
 use Rattle.tfs_facts.specs.Stores.{Fits, length-storeAll}
-use Rattle.romfs_rules.specs.Layout.{fullSize, nameLength, nameEnds, afterName, firstRoot, kind, executable, next, info, contentAt, endOf, own, isDots, descends, hasList, hasData, wordSum}
-use Rattle.romfs_rules.specs.Layout as romfs
-use Rattle.romfs_rules.specs.Rules.{short21, magic22, size23, sum24, name25, overBound, badName, badSum, badInfo, badSize, badHeader, badNext, badFirst, badNesting, tooDeep, fault}
-use Rattle.romfs_rules.specs.Rules as rom
-use Rattle.romfs_rules.specs.Check.{visitList, visitEntry, visitAll, walk, leads, towards, seek, isReached, badLink, links, volume, check as romCheck}
-use Rattle.romfs_rules.specs.Answers.{granted, denied, firstOf, matchFrom, matchIn, isDirectory, found, find, Entry, entryAt, described, measured, contentLength}
-use Rattle.romfs_rules.specs.Answers as answers
-use Rattle.tfs_rules.specs.Requests.{Answer, done, value, unused, file, refused, Outcome, Store, storeAll, formatStores, format, freeFrom, chosen, placeStores, createStores, createView, stored, create, counted, transferView, read, write, freeAnswer}
+use Rattle.romfs_spec.specs.Layout.{fullSize, nameLength, nameEnds, afterName, firstRoot, kind, executable, next, info, contentAt, endOf, own, isDots, descends, hasList, hasData, wordSum}
+use Rattle.romfs_spec.specs.Layout as romfs
+use Rattle.romfs_spec.specs.Rules.{short21, magic22, size23, sum24, name25, overBound, badName, badSum, badInfo, badSize, badHeader, badNext, badFirst, badNesting, tooDeep, fault}
+use Rattle.romfs_spec.specs.Rules as rom
+use Rattle.romfs_spec.specs.Check.{visitList, visitEntry, visitAll, walk, leads, towards, seek, isReached, badLink, links, volume, check as romCheck}
+use Rattle.romfs_spec.specs.Answers.{granted, denied, firstOf, matchFrom, matchIn, isDirectory, found, find, Entry, entryAt, described, measured, contentLength}
+use Rattle.romfs_spec.specs.Answers as answers
+use Rattle.tfs_spec.specs.Requests.{Answer, done, value, unused, file, refused, Outcome, Store, storeAll, formatStores, format, freeFrom, chosen, placeStores, createStores, createView, stored, create, counted, transferView, read, write, freeAnswer}
 
 -- the names, as bytes
 abbrev PUMP : List ℕ

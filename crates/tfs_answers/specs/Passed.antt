@@ -2,9 +2,9 @@
 use mathlib.Core.Path.{_≡_, refl, sym, ap, _∙_}
 use Prim.Native.Nat.{ℕ}
 use mathlib.Core.List.{List}
-use Rattle.lists.specs.Name.{zeros}
-use Rattle.tfs_rules.specs.Check.{Verdict, consistent, broken}
-use Rattle.tfs_rules.specs.Requests.{Answer, done, Outcome, Filled, checked, checkedOutcome, checkedFilled}
+use Rattle.lists.specs.Lists.{zeros}
+use Rattle.tfs_spec.specs.Check.{Verdict, consistent, broken}
+use Rattle.tfs_spec.specs.Requests.{Answer, done, Outcome, Filled, checked, checkedOutcome, checkedFilled}
 use Rattle.tfs_check.specs.declared.Fault.{Fault}
 use Rattle.tfs_check.specs.declared.Fault.the-variants.{Header, Slot, Block}
 use Rattle.tfs_check.specs.declared.Checked.{Checked}

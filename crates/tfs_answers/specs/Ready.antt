@@ -8,16 +8,15 @@ use native.Mathlib.Nat.{zero-add}
 use lib.ListN.{length, getD, take, drop}
 use lib.Dec.{T-not}
 use lib.Seq.{take-at}
-use Rattle.lists.specs.Test.{cond-no}
-use Rattle.lists.specs.Table.{table, length-table, getD-table, table-cong}
-use Rattle.lists.specs.Part.{part}
-use Rattle.lists.specs.Store.{storeAt}
-use Rattle.tfs_rules.specs.Layout.{need, blocks, block, inodeSize, inodeNumber}
-use Rattle.tfs_rules.specs.View.{View, view, free, inode, size, number, place, slotOf}
-use Rattle.tfs_rules.specs.Check.{consistent, check, fileClaims}
-use Rattle.tfs_rules.specs.Consistent.{File, Consistent}
-use Rattle.tfs_rules.specs.Consistent as rules
-use Rattle.tfs_rules.specs.CheckMeans.{check-means, used-inode, need-le}
+use Rattle.list_laws.specs.Test.{cond-no}
+use Rattle.lists.specs.Lists.{table, part, storeAt}
+use Rattle.list_laws.specs.Table.{length-table, getD-table, table-cong}
+use Rattle.tfs_spec.specs.Layout.{need, blocks, block, inodeSize, inodeNumber}
+use Rattle.tfs_spec.specs.View.{View, view, free, inode, size, number, place, slotOf}
+use Rattle.tfs_spec.specs.Check.{consistent, check, fileClaims}
+use Rattle.tfs_spec.specs.Consistent.{File, Consistent}
+use Rattle.tfs_spec.specs.Consistent as rules
+use Rattle.tfs_facts.specs.CheckMeans.{check-means, used-inode, need-le}
 use Rattle.tfs_facts.specs.Sizes.{in-image, in-need, size-512}
 use Rattle.tfs_facts.specs.Views.{view-n, view-dir, view-map, inode-block}
 use Rattle.tfs_dir.specs.Find.{findName, slot-of}

@@ -2,8 +2,8 @@
 use Prim.Native.Nat.{ℕ, _≤_}
 use mathlib.Core.List.{List}
 use lib.ListN.{take}
-use Rattle.lists.specs.Name.{zeros, padTo}
-use Rattle.tfs_rules.specs.Requests as rules
+use Rattle.lists.specs.Lists.{zeros, padTo}
+use Rattle.tfs_spec.specs.Requests as rules
 use Rattle.tfs_check.specs.declared.Fault.{Fault}
 use Rattle.tfs_check.specs.Told.{faultTold, FaultFits}
 use Rattle.tfs_answers.specs.declared.Answer.{Answer}

@@ -5,7 +5,7 @@ use mathlib.Core.Path.{_≡_, refl, sym, ap, subst, _∙_}
 use native.Mathlib.Omega.{arith}
 use lib.ListN.{length, take}
 use lib.Seq.{length-take-le}
-use Rattle.tfs_rules.specs.Requests.{Answer, done, value, unused, file, refused, checked}
+use Rattle.tfs_spec.specs.Requests.{Answer, done, value, unused, file, refused, checked}
 use Rattle.tfs_check.specs.declared.Fault.{Fault}
 use Rattle.tfs_check.specs.declared.Fault.the-variants.{Header, Slot, Block}
 use Rattle.tfs_check.specs.declared.Checked.{Checked}

@@ -1,6 +1,6 @@
 // The TFS requests for C. The header is tfs.h; a slice passes as a pointer and then a length.
 ghost use mathlib.Core.Path.{_≡_};
-ghost use Rattle.tfs_rules.specs.Requests as rules;
+ghost use Rattle.tfs_spec.specs.Requests as rules;
 ghost use Rattle.tfs_answers.specs.Told.{faultAnswer, answerTold, doneTold, entryTold, EntryFits};
 ghost use Rattle.tfs_c.specs.Result.{checkedAnswer, resultOf, slotOf, Tells, TellsEntry, TellsFile, TellsNone};
 use tfs_answers::Answer;

@@ -6,13 +6,13 @@ use mathlib.Core.List.{List, _++_}
 use native.Mathlib.Omega.{arith}
 use lib.ListN.{length, getD, take, List·getD-append}
 use borrow.Author.Tests.{lt-ltb, le-ltb}
-use Rattle.lists.specs.Test.{of-true, to-true}
-use Rattle.lists.specs.Part.{part}
-use Rattle.tfs_rules.specs.Layout.{need, blocks, nameAllowed}
-use Rattle.tfs_rules.specs.View.{View, view, slotOf, freeSlot, freeBlocks}
-use Rattle.tfs_rules.specs.Check.{consistent, check}
-use Rattle.tfs_rules.specs.CheckMeans.{check-means, need-le}
-use Rattle.tfs_rules.specs.Requests.{Answer, value, refused, granted, storeAll, freeFrom, chosen, placeStores, createStores, createView}
+use Rattle.list_laws.specs.Test.{of-true, to-true}
+use Rattle.lists.specs.Lists.{part}
+use Rattle.tfs_spec.specs.Layout.{need, blocks, nameAllowed}
+use Rattle.tfs_spec.specs.View.{View, view, slotOf, freeSlot, freeBlocks}
+use Rattle.tfs_spec.specs.Check.{consistent, check}
+use Rattle.tfs_facts.specs.CheckMeans.{check-means, need-le}
+use Rattle.tfs_spec.specs.Requests.{Answer, value, refused, granted, storeAll, freeFrom, chosen, placeStores, createStores, createView}
 use Rattle.tfs_facts.specs.Sizes.{size-512}
 use Rattle.tfs_facts.specs.Views.{view-n}
 use Rattle.tfs_facts.specs.Entries.{allowed}

@@ -7,11 +7,11 @@ use native.Mathlib.Omega.{arith}
 use lib.ListN.{length}
 use lib.Dec.{T, ltb, eqb, ltb→lt}
 use borrow.Author.Tests.{lt-ltb, le-ltb}
-use Rattle.lists.specs.Name.{firstZero}
-use Rattle.lists.specs.Test.{of-true, and-l}
-use Rattle.tfs_rules.specs.Layout.{labelAllowed}
-use Rattle.tfs_rules.specs.Check.{tooShort}
-use Rattle.tfs_rules.specs.Requests.{done, refuse, storeAll, formatStores, format}
+use Rattle.lists.specs.Lists.{firstZero}
+use Rattle.list_laws.specs.Test.{of-true, and-l}
+use Rattle.tfs_spec.specs.Layout.{labelAllowed}
+use Rattle.tfs_spec.specs.Check.{tooShort}
+use Rattle.tfs_spec.specs.Requests.{done, refuse, storeAll, formatStores, format}
 
 pub label-short : (label : List ℕ) → labelAllowed label ≡ true → length label ≤ 15
 unfolding labelAllowed

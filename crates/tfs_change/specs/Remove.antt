@@ -6,12 +6,12 @@ use mathlib.Core.List.{List, _++_}
 use native.Mathlib.Omega.{arith}
 use lib.ListN.{length, take}
 use borrow.Author.Tests.{lt-ltb, le-ltb}
-use Rattle.lists.specs.Part.{part}
-use Rattle.tfs_rules.specs.Layout.{need, block, slot, slotInode, inodeSize, nameAllowed}
-use Rattle.tfs_rules.specs.View.{View, view, inode, slotOf}
-use Rattle.tfs_rules.specs.Check.{consistent, check, fileClaims}
-use Rattle.tfs_rules.specs.Consistent.{File}
-use Rattle.tfs_rules.specs.Requests.{Answer, done, granted, storeAll, removeStores, removeView}
+use Rattle.lists.specs.Lists.{part}
+use Rattle.tfs_spec.specs.Layout.{need, block, slot, slotInode, inodeSize, nameAllowed}
+use Rattle.tfs_spec.specs.View.{View, view, inode, slotOf}
+use Rattle.tfs_spec.specs.Check.{consistent, check, fileClaims}
+use Rattle.tfs_spec.specs.Consistent.{File}
+use Rattle.tfs_spec.specs.Requests.{Answer, done, granted, storeAll, removeStores, removeView}
 use Rattle.tfs_facts.specs.Names.{slot-hit}
 use Rattle.tfs_dir.specs.Find.{findName}
 use Rattle.tfs_map.specs.Under.{Under, front, front-fits}

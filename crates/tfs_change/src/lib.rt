@@ -1,10 +1,10 @@
 // Requests that change the directory: format, create, remove.
 ghost use mathlib.Core.Path.{_≡_};
 ghost use mathlib.Core.Bool.{cond};
-ghost use Rattle.tfs_rules.specs.View.{view};
-ghost use Rattle.tfs_rules.specs.Check.{consistent, check};
-ghost use Rattle.tfs_rules.specs.Requests.{granted, storeAll, createView, createStores, removeView, removeStores};
-ghost use Rattle.tfs_rules.specs.Requests as rules;
+ghost use Rattle.tfs_spec.specs.View.{view};
+ghost use Rattle.tfs_spec.specs.Check.{consistent, check};
+ghost use Rattle.tfs_spec.specs.Requests.{granted, storeAll, createView, createStores, removeView, removeStores};
+ghost use Rattle.tfs_spec.specs.Requests as rules;
 ghost use Rattle.tfs_answers.specs.Told.{answerTold, AnswerFits, doneTold, DoneFits};
 use tfs_answers::Answer;
 use tfs_answers::Done;

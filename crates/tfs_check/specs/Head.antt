@@ -6,12 +6,10 @@ use native.Mathlib.Omega.{arith}
 use mathlib.Core.List.{List}
 use lib.ListN.{take, drop}
 use lib.Dec.{leb, eqb}
-use Rattle.lists.specs.Name.{firstZero}
-use Rattle.lists.specs.Part.{part}
-use Rattle.lists.specs.Word.{word}
-use Rattle.tfs_rules.specs.Layout.{block}
-use Rattle.tfs_rules.specs.View.{view, viewN}
-use Rattle.tfs_rules.specs.Check.{badMagic, badLabel}
+use Rattle.lists.specs.Lists.{firstZero, part, word}
+use Rattle.tfs_spec.specs.Layout.{block}
+use Rattle.tfs_spec.specs.View.{view, viewN}
+use Rattle.tfs_spec.specs.Check.{badMagic, badLabel}
 use Rattle.tfs_dir.specs.Slots.{part-part}
 
 pub magic-at : (img : List ℕ) → badMagic (view 512 img) ≡ not (eqb (word (take 512 (drop 0 img)) 0) 3745)

@@ -5,13 +5,10 @@ use Prim.Native.Nat.{ℕ, _≤_}
 use mathlib.Core.List.{List}
 use lib.ListN.{length, take, drop, set}
 use lib.Dec.{ltb}
-use Rattle.lists.specs.Bits.{withBit}
-use Rattle.lists.specs.Least.{least}
-use Rattle.lists.specs.Name.{zeros}
-use Rattle.lists.specs.Part.{part}
-use Rattle.tfs_rules.specs.Layout.{blocks, block, setBit, setBits}
-use Rattle.tfs_rules.specs.View.{View, view, viewN}
-use Rattle.tfs_rules.specs.Check.{Verdict, consistent, broken, found, tooShort, badMagic, badLabel, badSlot, badInode, claims, claimedTwice, badBit, checkView, check}
+use Rattle.lists.specs.Lists.{withBit, least, zeros, part}
+use Rattle.tfs_spec.specs.Layout.{blocks, block, setBit, setBits}
+use Rattle.tfs_spec.specs.View.{View, view, viewN}
+use Rattle.tfs_spec.specs.Check.{Verdict, consistent, broken, found, tooShort, badMagic, badLabel, badSlot, badInode, claims, claimedTwice, badBit, checkView, check}
 use Rattle.tfs_dir.specs.Find.{slotBad, first-bad}
 use Rattle.tfs_facts.specs.FreshMap.{formatMap}
 use Rattle.tfs_map.specs.Compare.{bitDiffers}

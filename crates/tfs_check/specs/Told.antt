@@ -1,6 +1,6 @@
 -- What an answer of the check says, as a verdict of the rules.
 use Prim.Native.Nat.{_≤_}
-use Rattle.tfs_rules.specs.Check.{Verdict, consistent, broken}
+use Rattle.tfs_spec.specs.Check.{Verdict, consistent, broken}
 use Rattle.tfs_check.specs.declared.Fault.{Fault}
 use Rattle.tfs_check.specs.declared.Fault.the-variants.{Header, Slot, Block}
 use Rattle.tfs_check.specs.declared.Checked.{Checked}

@@ -3,8 +3,8 @@ pub mod volume; // volume.rt: the size and the header
 
 ghost use mathlib.Core.Path.{_≡_};
 ghost use Prim.Native.Nat.{_≤_};
-ghost use Rattle.tfs_rules.specs.View.{view};
-ghost use Rattle.tfs_rules.specs.Check.{check};
+ghost use Rattle.tfs_spec.specs.View.{view};
+ghost use Rattle.tfs_spec.specs.Check.{check};
 ghost use Rattle.tfs_check.specs.Told.{checkedTold, CheckedFits};
 ghost use Rattle.tfs_tally.specs.Files.{Sized};
 ghost use Rattle.tfs_check.specs.Order.{blocksVerdict};

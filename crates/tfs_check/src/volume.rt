@@ -2,9 +2,9 @@
 ghost use mathlib.Core.Path.{_≡_};
 ghost use Prim.Native.Nat.{_≤_};
 ghost use lib.ListN.{length};
-ghost use Rattle.tfs_rules.specs.Layout.{blocks};
-ghost use Rattle.tfs_rules.specs.View.{view};
-ghost use Rattle.tfs_rules.specs.Check.{badMagic, badLabel};
+ghost use Rattle.tfs_spec.specs.Layout.{blocks};
+ghost use Rattle.tfs_spec.specs.View.{view};
+ghost use Rattle.tfs_spec.specs.Check.{badMagic, badLabel};
 use spans::search::first_zero;
 use spans::words::be32;
 

@@ -5,10 +5,8 @@ use native.Mathlib.Nat.{zero-sub, sub-zero, suc-sub-suc}
 use mathlib.Core.List.{List, _++_}
 use lib.ListN.{length, drop}
 use lib.Seq.{take-all}
-use Rattle.lists.specs.Name.{padTo, zeros}
-use Rattle.lists.specs.Word.{bytes4}
-use Rattle.lists.specs.Part.{withPart}
-use Rattle.tfs_rules.specs.Layout.{entry}
+use Rattle.lists.specs.Lists.{padTo, zeros, bytes4, withPart}
+use Rattle.tfs_spec.specs.Layout.{entry}
 
 drop-zeros : (k n : ℕ) → drop k (zeros n) ≡ zeros (n - k)
 drop-zeros zero n = ap zeros (sym (sub-zero n))

@@ -9,11 +9,11 @@ use lib.ListN.{length, getD, take, drop, length-drop}
 use lib.Seq.{take-all, take-take, drop-drop, length-take-le, getD-take}
 use lib.Dec.{ltb, eqb}
 use borrow.Author.Tests.{ltb-false, eqb-false}
-use Rattle.lists.specs.Least.{least-le}
-use Rattle.lists.specs.Name.{zeroAt, firstZero, upToZero}
-use Rattle.lists.specs.Part.{part, length-part, getD-part, drop-take}
-use Rattle.lists.specs.Test.{sameList, same-eq, to-false, or-no-l, or-no-r}
-use Rattle.tfs_rules.specs.Layout.{slot, slotName, sameName}
+use Rattle.list_laws.specs.Least.{least-le}
+use Rattle.lists.specs.Lists.{zeroAt, firstZero, upToZero, part, sameList}
+use Rattle.list_laws.specs.Part.{length-part, getD-part, drop-take}
+use Rattle.list_laws.specs.Test.{same-eq, to-false, or-no-l, or-no-r}
+use Rattle.tfs_spec.specs.Layout.{slot, slotName, sameName}
 
 -- a part of a part is a part of the whole
 pub part-part : (s n t m : ℕ) (l : List ℕ) → t + m ≤ n → part t m (part s n l) ≡ part (s + t) m l

@@ -2,7 +2,7 @@
 ghost use mathlib.Core.Path.{_≡_};
 ghost use Prim.Native.Nat.{_<_, _≤_};
 ghost use lib.ListN.{length};
-ghost use Rattle.lists.specs.Least.{least};
+ghost use Rattle.lists.specs.Lists.{least};
 ghost use Rattle.tfs_dir.specs.Find.{slotHolds, slotHandles, slotRepeats, slotBad, findName, findHandle, findFree};
 use crate::slots::name_length;
 use crate::slots::slot_free;

@@ -1,7 +1,7 @@
 // Names as requests and slots have them.
 ghost use mathlib.Core.Path.{_≡_};
 ghost use lib.ListN.{length};
-ghost use Rattle.tfs_rules.specs.Layout.{nameFormed, nameAllowed, labelAllowed};
+ghost use Rattle.tfs_spec.specs.Layout.{nameFormed, nameAllowed, labelAllowed};
 use spans::search::all_zero;
 use spans::search::first_zero;
 

@@ -2,8 +2,8 @@
 ghost use mathlib.Core.Path.{_≡_};
 ghost use Prim.Native.Nat.{_<_, _≤_};
 ghost use lib.ListN.{length};
-ghost use Rattle.lists.specs.Name.{padTo};
-ghost use Rattle.tfs_rules.specs.Layout.{slot, slotFree, slotInode, slotUsed, slotName, sameName};
+ghost use Rattle.lists.specs.Lists.{padTo};
+ghost use Rattle.tfs_spec.specs.Layout.{slot, slotFree, slotInode, slotUsed, slotName, sameName};
 ghost use Rattle.tfs_dir.specs.Slots.{lastSame};
 use crate::names::name_formed;
 use spans::copy::copy;

@@ -2,7 +2,7 @@
 ghost use mathlib.Core.Path.{_≡_};
 ghost use Prim.Native.Nat.{_<_, _≤_};
 ghost use lib.ListN.{length, replicate};
-ghost use Rattle.tfs_rules.specs.Layout.{setSlot, entry};
+ghost use Rattle.tfs_spec.specs.Layout.{setSlot, entry};
 use spans::copy::copy;
 use spans::copy::zero;
 use spans::words::put32;

@@ -8,11 +8,11 @@ use native.Mathlib.Decide.{decLt}
 use lib.ListN.{length, getD, length-take}
 use lib.Seq.{getD-take}
 use lib.Dec.{T}
-use Rattle.tfs_rules.specs.Layout.{slots, need, maxSize, nameAllowed}
-use Rattle.tfs_rules.specs.View.{View, slotOf, freeSlot, freeBlocks}
-use Rattle.tfs_rules.specs.Consistent.{Owned, Inside, Sound}
-use Rattle.tfs_rules.specs.Room.{free-count, FreeIn, free-member, free-rising}
-use Rattle.tfs_rules.specs.Requests.{freeFrom, chosen}
+use Rattle.tfs_spec.specs.Layout.{slots, need, maxSize, nameAllowed}
+use Rattle.tfs_spec.specs.View.{View, slotOf, freeSlot, freeBlocks}
+use Rattle.tfs_spec.specs.Consistent.{Owned, Inside, Sound}
+use Rattle.tfs_facts.specs.Room.{free-count, FreeIn, free-member, free-rising}
+use Rattle.tfs_spec.specs.Requests.{freeFrom, chosen}
 
 -- what a grant of create says
 pub record CreateGrant (B : ℕ) (v : View) (nm : List ℕ) (z : ℕ) : Type 0 where

@@ -8,14 +8,13 @@ use native.Mathlib.Omega.{arith}
 use lib.ListN.{length, getD, take, length-append, length-take, length-replicate, List·getD-append}
 use lib.Seq.{take-all, take-at, getD-append-add}
 use lib.Dec.{T, leb, ltb, leb→le, ltb→lt, eqb→eq, T-not, not-T}
-use Rattle.lists.specs.Test.{allZero, zero-bytes, and-of, and-l, and-r, eqb-of}
-use Rattle.lists.specs.Least.{least-below}
-use Rattle.lists.specs.Name.{zeros, zeroAt, firstZero, upToZero, padTo}
-use Rattle.lists.specs.Word.{word, bytes4, words, length-words, words-at, word-bytes4, word-skip, zero-word}
-use Rattle.lists.specs.Part.{part}
-use Rattle.tfs_rules.specs.Layout.{slotInode, nameField, slotName, slotFree, slotUsed, nameFormed, inRange, entry, inodeSize, inodeNumber, inodeBlock, labelAllowed, nameAllowed}
-use Rattle.tfs_rules.specs.Consistent.{Named}
-use Rattle.tfs_rules.specs.CheckMeans.{name-is, formed-named}
+use Rattle.lists.specs.Lists.{allZero, zeros, zeroAt, firstZero, upToZero, padTo, word, bytes4, words, part}
+use Rattle.list_laws.specs.Test.{zero-bytes, and-of, and-l, and-r, eqb-of}
+use Rattle.list_laws.specs.Least.{least-below}
+use Rattle.list_laws.specs.Word.{length-words, words-at, word-bytes4, word-skip, zero-word}
+use Rattle.tfs_spec.specs.Layout.{slotInode, nameField, slotName, slotFree, slotUsed, nameFormed, inRange, entry, inodeSize, inodeNumber, inodeBlock, labelAllowed, nameAllowed}
+use Rattle.tfs_spec.specs.Consistent.{Named}
+use Rattle.tfs_facts.specs.CheckMeans.{name-is, formed-named}
 
 pub length-pad : (n : ℕ) (l : List ℕ) → length (padTo n l) ≡ n
 length-pad n l = simp (length-append, length-take, length-replicate) (omega arith)

@@ -9,12 +9,12 @@ use native.Mathlib.Decide.{decLt}
 use lib.ListN.{length, getD, length-replicate}
 use lib.Dec.{T, ltb, eqb, ltb→lt}
 use borrow.Author.Tests.{lt-ltb, le-ltb}
-use Rattle.lists.specs.Test.{zero-bytes, of-true}
-use Rattle.lists.specs.Name.{zeros}
-use Rattle.lists.specs.Bits.{bitOf, bit-zero}
-use Rattle.tfs_rules.specs.Layout.{mapByte, mapBit, setBits}
+use Rattle.list_laws.specs.Test.{zero-bytes, of-true}
+use Rattle.lists.specs.Lists.{zeros, bitOf, In}
+use Rattle.list_laws.specs.Bits.{bit-zero}
+use Rattle.tfs_spec.specs.Layout.{mapByte, mapBit, setBits}
 use Rattle.tfs_facts.specs.Entries.{zeros-zero}
-use Rattle.tfs_facts.specs.MapBits.{In, Mapped, bits-kept, bits-set}
+use Rattle.tfs_facts.specs.MapBits.{Mapped, bits-kept, bits-set}
 
 -- ---- zeros
 pub zeros-byte : (n i : ℕ) → getD (zeros n) i 0 ≡ 0

@@ -1,3 +1,8 @@
+pub mod Claims
+pub mod CheckMeans
+pub mod MapWords
+pub mod Room
+pub mod Total
 pub mod Sizes
 pub mod Stores
 pub mod MapBits

@@ -10,8 +10,9 @@ use lib.ListN.{length, getD, set, length-set}
 use lib.Seq.{getD-set-same, getD-set-other, set-set, set-comm, set-getD}
 use lib.Dec.{eqb}
 use borrow.Author.Tests.{eqb-false}
-use Rattle.lists.specs.Bits.{bitOf, withBit, bit-same, bit-other, bit-stays, bit-again, bit-small, bit-comm}
-use Rattle.tfs_rules.specs.Layout.{mapByte, mapBit, setBit, setBits}
+use Rattle.lists.specs.Lists.{In, bitOf, withBit}
+use Rattle.list_laws.specs.Bits.{bit-same, bit-other, bit-stays, bit-again, bit-small, bit-comm}
+use Rattle.tfs_spec.specs.Layout.{mapByte, mapBit, setBit, setBits}
 
 digits : (c : ℕ) → c ≡ 32 * (c / 32) + 8 * (c % 32 / 8) + c % 8
 digits c = omega arith
@@ -57,12 +58,6 @@ module _ (map : List ℕ) (b v : ℕ) (h : mapByte b < length map) (two : v < 2)
             ∙ ap (λ (i : ℕ). eqb (bitOf (getD map i 0) (c % 8)) 1) (sym e))
         | no e ↦ ap (λ (x : ℕ). eqb (bitOf x (c % 8)) 1) (getD-set-other map (mapByte b) (mapByte c) new 0 e)
       ]
-
--- ---- many bits
--- b stands in a list
-abbrev pub In : ℕ → List ℕ → Type 0
-In b [] = ⊥
-In b (x ∷ xs) = (b ≡ x) ⊎ In b xs
 
 pub in-dec : (b : ℕ) (xs : List ℕ) → Dec (In b xs)
 in-dec b [] = no (λ x. x)

@@ -8,18 +8,19 @@ use native.Mathlib.Omega.{arith}
 use native.Mathlib.Nat.{zero-add}
 use lib.ListN.{length}
 use lib.Dec.{T, eqb, eqb→eq, T-not, not-T}
-use Rattle.lists.specs.Test.{sameList, same-eq, same-refl, cond-no, and-of, and-l, and-r, eqb-of}
-use Rattle.lists.specs.Least.{least, least-hit, least-none, least-is}
-use Rattle.lists.specs.Table.{table, length-table, getD-table}
-use Rattle.lists.specs.Part.{length-with, part-with, part-with-other}
-use Rattle.tfs_rules.specs.Layout.{slots, need, slot, setSlot, sameName}
-use Rattle.tfs_rules.specs.View.{View, free, inode, name, size, number, slotOf, slotWith, freeSlot}
-use Rattle.tfs_rules.specs.Check.{fileClaims}
-use Rattle.tfs_rules.specs.Consistent.{File, Owner, inodeOf, contentOf, Owns, Sound}
-use Rattle.tfs_rules.specs.Claims.{slotIn}
-use Rattle.tfs_rules.specs.CheckMeans.{same-sym}
+use Rattle.lists.specs.Lists.{sameList, least, table, In}
+use Rattle.list_laws.specs.Test.{same-eq, same-refl, cond-no, and-of, and-l, and-r, eqb-of}
+use Rattle.list_laws.specs.Least.{least-hit, least-none, least-is}
+use Rattle.list_laws.specs.Table.{length-table, getD-table}
+use Rattle.list_laws.specs.Part.{length-with, part-with, part-with-other}
+use Rattle.tfs_spec.specs.Layout.{slots, need, slot, setSlot, sameName}
+use Rattle.tfs_spec.specs.View.{View, free, inode, name, size, number, slotOf, slotWith, freeSlot}
+use Rattle.tfs_spec.specs.Check.{fileClaims}
+use Rattle.tfs_spec.specs.Consistent.{File, Owner, inodeOf, contentOf, Owns, Sound}
+use Rattle.tfs_facts.specs.Claims.{slotIn}
+use Rattle.tfs_facts.specs.CheckMeans.{same-sym}
 use Rattle.tfs_facts.specs.Sizes.{apart-blocks}
-use Rattle.tfs_facts.specs.MapBits.{In, in-at, at-in}
+use Rattle.tfs_facts.specs.MapBits.{in-at, at-in}
 
 -- ---- the same name
 pub name-refl : (a : List ℕ) → T (sameName a a)

@@ -9,7 +9,7 @@ use native.Mathlib.Nat.{div-add-mod', mod-lt, mul-le-mul-right, le-div-iff-mul-l
 use lib.Arith.{digits-div, digits-mod}
 use lib.ListN.{length}
 use lib.Dec.{lit≤}
-use Rattle.tfs_rules.specs.Layout.{BlockSize, need, blocks}
+use Rattle.tfs_spec.specs.Layout.{BlockSize, need, blocks}
 
 module _ (B : ℕ) (pos : 0 < B) where
   -- a place says its block and its offset

@@ -5,10 +5,10 @@ use Prim.Native.Nat.{ℕ, zero, suc, _+_, _*_, _≤_, _<_}
 use mathlib.Core.List.{List, [], _∷_, _++_}
 use native.Mathlib.Omega.{arith}
 use lib.ListN.{length, getD, length-replicate}
-use Rattle.lists.specs.Name.{zeros}
-use Rattle.lists.specs.Part.{length-part, length-with, part-with, part-with-other, getD-part, getD-with-after}
-use Rattle.tfs_rules.specs.Layout.{block, setBlock}
-use Rattle.tfs_rules.specs.Requests.{Store, store, storeAll, zeroStores}
+use Rattle.lists.specs.Lists.{zeros}
+use Rattle.list_laws.specs.Part.{length-part, length-with, part-with, part-with-other, getD-part, getD-with-after}
+use Rattle.tfs_spec.specs.Layout.{block, setBlock}
+use Rattle.tfs_spec.specs.Requests.{Store, store, storeAll, zeroStores}
 use Rattle.tfs_facts.specs.Sizes.{apart-blocks}
 
 -- ---- one store

@@ -8,12 +8,13 @@ use native.Mathlib.Nat.{zero-add}
 use native.Mathlib.Decide.{decLt}
 use lib.ListN.{length, getD}
 use lib.Dec.{T, leb, ltb, le→leb, lt→ltb}
-use Rattle.lists.specs.Test.{by-test, cond-yes, and-of}
-use Rattle.lists.specs.Table.{getD-table, getD-table-out}
-use Rattle.lists.specs.Word.{word, zero-word}
-use Rattle.tfs_rules.specs.Layout.{slots, blocks, block, slot, slotInode, slotFree, inRange, inodeSize}
-use Rattle.tfs_rules.specs.View.{View, view, viewN, inodeAt, free, inode, size}
-use Rattle.tfs_rules.specs.Consistent.{File, Inside}
+use Rattle.list_laws.specs.Test.{by-test, cond-yes, and-of}
+use Rattle.list_laws.specs.Table.{getD-table, getD-table-out}
+use Rattle.lists.specs.Lists.{word}
+use Rattle.list_laws.specs.Word.{zero-word}
+use Rattle.tfs_spec.specs.Layout.{slots, blocks, block, slot, slotInode, slotFree, inRange, inodeSize}
+use Rattle.tfs_spec.specs.View.{View, view, viewN, inodeAt, free, inode, size}
+use Rattle.tfs_spec.specs.Consistent.{File, Inside}
 use Rattle.tfs_facts.specs.Stores.{length-block}
 
 -- a free slot has inode number 0

@@ -7,10 +7,11 @@ use native.Mathlib.Omega.{arith}
 use mathlib.Core.List.{List, [], _∷_, _++_}
 use lib.ListN.{length, getD, drop, set}
 use lib.Seq.{drop-cons, drop-set-lt, append-snoc, set-at}
-use Rattle.lists.specs.Table.{table, length-table, getD-table, table-more}
-use Rattle.tfs_rules.specs.Layout.{mapBit, setBit, setBits, need, inodeSize, inodeNumber}
-use Rattle.tfs_rules.specs.View.{View, free, inode, size, number}
-use Rattle.tfs_rules.specs.Check.{fileClaims}
+use Rattle.lists.specs.Lists.{table}
+use Rattle.list_laws.specs.Table.{length-table, getD-table, table-more}
+use Rattle.tfs_spec.specs.Layout.{mapBit, setBit, setBits, need, inodeSize, inodeNumber}
+use Rattle.tfs_spec.specs.View.{View, free, inode, size, number}
+use Rattle.tfs_spec.specs.Check.{fileClaims}
 use Rattle.tfs_map.specs.Bits.{bits-more}
 use Rattle.tfs_map.specs.Under.{Under}
 use Rattle.tfs_inode.specs.Wrong.{inodeWrong, right-number}

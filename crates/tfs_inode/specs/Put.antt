@@ -6,10 +6,9 @@ use native.Mathlib.Omega.{arith}
 use mathlib.Core.List.{List, [], _∷_, _++_, append-assoc}
 use lib.ListN.{length, getD, take, replicate, length-take}
 use lib.Seq.{take-suc, take-at, drop-at, take-all}
-use Rattle.lists.specs.Word.{bytes4, words, length-words}
-use Rattle.lists.specs.Name.{zeros, padTo}
-use Rattle.lists.specs.Part.{withPart}
-use Rattle.tfs_rules.specs.Layout.{inodeBlock}
+use Rattle.lists.specs.Lists.{bytes4, words, zeros, padTo, withPart}
+use Rattle.list_laws.specs.Word.{length-words}
+use Rattle.tfs_spec.specs.Layout.{inodeBlock}
 
 words-append : (xs ys : List ℕ) → words (xs ++ ys) ≡ words xs ++ words ys
 words-append [] ys = refl

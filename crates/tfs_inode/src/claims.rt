@@ -3,7 +3,7 @@ ghost use mathlib.Core.Path.{_≡_};
 ghost use mathlib.Core.List.{_++_};
 ghost use Prim.Native.Nat.{_+_, _≤_};
 ghost use lib.ListN.{length, drop};
-ghost use Rattle.tfs_rules.specs.Layout.{setBits, need, inodeSize};
+ghost use Rattle.tfs_spec.specs.Layout.{setBits, need, inodeSize};
 ghost use Rattle.tfs_map.specs.Under.{Under};
 ghost use Rattle.tfs_inode.specs.Claims.{claimList, lowerOf, doubled};
 use crate::read::block_number;

@@ -2,7 +2,7 @@
 ghost use mathlib.Core.Path.{_≡_};
 ghost use Prim.Native.Nat.{_≤_};
 ghost use lib.ListN.{length};
-ghost use Rattle.tfs_rules.specs.Layout.{inodeBlock};
+ghost use Rattle.tfs_spec.specs.Layout.{inodeBlock};
 use spans::copy::zero;
 use spans::words::put32;
 

@@ -2,7 +2,7 @@
 ghost use mathlib.Core.Path.{_≡_};
 ghost use Prim.Native.Nat.{_+_, _*_, _<_};
 ghost use lib.ListN.{length};
-ghost use Rattle.tfs_rules.specs.Layout.{need, inodeSize, inodeNumber};
+ghost use Rattle.tfs_spec.specs.Layout.{need, inodeSize, inodeNumber};
 use spans::words::be32;
 
 // The file's size in bytes.

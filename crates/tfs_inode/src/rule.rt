@@ -2,8 +2,8 @@
 ghost use mathlib.Core.Path.{_≡_};
 ghost use Prim.Native.Nat.{_≤_};
 ghost use lib.ListN.{length};
-ghost use Rattle.lists.specs.Least.{least};
-ghost use Rattle.tfs_rules.specs.Layout.{need, inRange, inodeSize};
+ghost use Rattle.lists.specs.Lists.{least};
+ghost use Rattle.tfs_spec.specs.Layout.{need, inRange, inodeSize};
 ghost use Rattle.tfs_inode.specs.Wrong.{numberWrong, numbersWrong, inodeWrong};
 use crate::read::blocks_needed;
 use crate::read::inode_number;

@@ -4,10 +4,10 @@ use mathlib.Core.Logic.{inl, inr}
 use Prim.Native.Nat.{ℕ, _≤_}
 use mathlib.Core.List.{List, [], _∷_}
 use native.Mathlib.Omega.{arith}
-use Rattle.tfs_rules.specs.View.{View}
-use Rattle.tfs_rules.specs.Consistent.{Broken, short, unmagical, unlabelled, malformed, repeated, oversized, misnumbered, twice, unmarked, stray}
-use Rattle.tfs_rules.specs.Requests.{Answer, done, value, unused, file, refused}
-use Rattle.tfs_facts.specs.MapBits.{In}
+use Rattle.tfs_spec.specs.View.{View}
+use Rattle.tfs_spec.specs.Consistent.{Broken, short, unmagical, unlabelled, malformed, repeated, oversized, misnumbered, twice, unmarked, stray}
+use Rattle.tfs_spec.specs.Requests.{Answer, done, value, unused, file, refused}
+use Rattle.lists.specs.Lists.{In}
 use Rattle.tfs_laws.specs.Grants as rule
 use Rattle.tfs_laws.specs.Grants.{FindRule, CreateRule, TransferRule, ListRule, FormatRule}
 

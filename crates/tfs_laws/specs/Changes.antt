@@ -7,13 +7,13 @@ use mathlib.Core.Option.{Option}
 use native.Mathlib.Omega.{arith}
 use lib.ListN.{length}
 use lib.Dec.{T, ltb, ltb→lt}
-use Rattle.lists.specs.Test.{not-not, to-true, by-test, cond-no}
-use Rattle.tfs_rules.specs.Layout.{BlockSize, slots}
-use Rattle.tfs_rules.specs.View.{View, view, name, slotOf, slotWith, contents}
-use Rattle.tfs_rules.specs.Check.{Verdict, consistent, broken, check}
-use Rattle.tfs_rules.specs.Consistent.{Consistent}
-use Rattle.tfs_rules.specs.CheckMeans.{check-means}
-use Rattle.tfs_rules.specs.Requests.{Answer, granted, Outcome, checkedOutcome, stored, storeAll, createView, createStores, create, removeView, removeStores, remove, transferView, write}
+use Rattle.list_laws.specs.Test.{not-not, to-true, by-test, cond-no}
+use Rattle.tfs_spec.specs.Layout.{BlockSize, slots}
+use Rattle.tfs_spec.specs.View.{View, view, name, slotOf, slotWith, contents}
+use Rattle.tfs_spec.specs.Check.{Verdict, consistent, broken, check}
+use Rattle.tfs_spec.specs.Consistent.{Consistent}
+use Rattle.tfs_facts.specs.CheckMeans.{check-means}
+use Rattle.tfs_spec.specs.Requests.{Answer, granted, Outcome, checkedOutcome, stored, storeAll, createView, createStores, create, removeView, removeStores, remove, transferView, write}
 use Rattle.tfs_facts.specs.Views.{view-head}
 use Rattle.tfs_laws.specs.WriteLists.{wr, request, putOf, request-answer, request-image, request-view, request-length, request-sound}
 use Rattle.tfs_facts.specs.Names.{handle-hit}
@@ -82,7 +82,7 @@ module _ (B : ℕ) (img : List ℕ) (passed : Passed B img) where
   unfolding removeView
   remove-granted nm g =
       let t : T (granted (removeView B (view B img) nm)) = subst (λ (o : Outcome). T (granted (o .answer))) (remove-is nm) g in
-      let g8 = grant-step (not (Rattle.tfs_rules.specs.Layout.nameAllowed nm)) 8 _ t in
+      let g8 = grant-step (not (Rattle.tfs_spec.specs.Layout.nameAllowed nm)) 8 _ t in
       let g13 = grant-step (not (ltb (slotOf B (view B img) nm) (slots B))) 13 _ (g8 .1) in
       ltb→lt (slotOf B (view B img) nm) (slots B) (not-not (ltb (slotOf B (view B img) nm) (slots B)) (g13 .0))
 

@@ -9,14 +9,14 @@ use native.Mathlib.Nat.{zero-add, suc-mul, div-add-mod', mod-lt}
 use lib.ListN.{length, getD, take, length-take, length-append, List·getD-append}
 use lib.Seq.{ext-getD, getD-take, getD-append-add}
 use lib.Dec.{ltb}
-use Rattle.lists.specs.Table.{table, length-table, getD-table, table-cong}
-use Rattle.tfs_rules.specs.Layout.{BlockSize, slots, need, block}
-use Rattle.tfs_rules.specs.View.{View, view, size, number, slotOf, place, content, contents}
-use Rattle.tfs_rules.specs.Consistent.{File, Consistent}
+use Rattle.lists.specs.Lists.{table, joined}
+use Rattle.list_laws.specs.Table.{length-table, getD-table, table-cong}
+use Rattle.tfs_spec.specs.Layout.{BlockSize, slots, need, block}
+use Rattle.tfs_spec.specs.View.{View, view, size, number, slotOf, place, content, contents}
+use Rattle.tfs_spec.specs.Consistent.{File, Consistent}
 use Rattle.tfs_facts.specs.Sizes.{in-need, in-block, in-image}
 use Rattle.tfs_facts.specs.Views.{view-n}
 use Rattle.tfs_facts.specs.Stores.{length-block, byte-at}
-use Rattle.tfs_laws.specs.Writes.{joined}
 
 pub length-content : (B : ℕ) (v : View) (img : List ℕ) (s : ℕ) → length (content B v img s) ≡ size v s
 unfolding content

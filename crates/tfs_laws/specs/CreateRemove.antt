@@ -8,16 +8,16 @@ use native.Mathlib.Omega.{arith}
 use lib.ListN.{length, getD, length-replicate, getD-replicate}
 use lib.Seq.{ext-getD}
 use lib.Dec.{T, ltb, lt→ltb}
-use Rattle.lists.specs.Name.{zeros}
-use Rattle.lists.specs.Test.{allZero, zero-bytes, cond-no, yes-yes}
-use Rattle.lists.specs.Table.{table, table-cong, table-getD}
-use Rattle.lists.specs.Part.{part, withPart, length-part, with-with, with-same}
-use Rattle.tfs_rules.specs.Layout.{BlockSize, slots, block, slot, setSlot, setBits, mapBit, need, entry, slotFree, nameAllowed}
-use Rattle.tfs_rules.specs.View.{View, view, free, size, number, slotOf, freeSlot}
-use Rattle.tfs_rules.specs.Check.{fileClaims}
-use Rattle.tfs_rules.specs.Consistent.{Consistent}
-use Rattle.tfs_rules.specs.CheckMeans.{check-means}
-use Rattle.tfs_rules.specs.Requests.{Answer, done, refused, granted, Outcome, storeAll, create, createStores, chosen, removeView, removeStores, remove, stored}
+use Rattle.lists.specs.Lists.{zeros, allZero, table, part, withPart}
+use Rattle.list_laws.specs.Test.{zero-bytes, cond-no, yes-yes}
+use Rattle.list_laws.specs.Table.{table-cong, table-getD}
+use Rattle.list_laws.specs.Part.{length-part, with-with, with-same}
+use Rattle.tfs_spec.specs.Layout.{BlockSize, slots, block, slot, setSlot, setBits, mapBit, need, entry, slotFree, nameAllowed}
+use Rattle.tfs_spec.specs.View.{View, view, free, size, number, slotOf, freeSlot}
+use Rattle.tfs_spec.specs.Check.{fileClaims}
+use Rattle.tfs_spec.specs.Consistent.{Consistent}
+use Rattle.tfs_facts.specs.CheckMeans.{check-means}
+use Rattle.tfs_spec.specs.Requests.{Answer, done, refused, granted, Outcome, storeAll, create, createStores, chosen, removeView, removeStores, remove, stored}
 use Rattle.tfs_facts.specs.Views.{view-dir, view-map, length-dir}
 use Rattle.tfs_facts.specs.MapBits.{in-at, Distinct, setBits-undo}
 use Rattle.tfs_facts.specs.Names.{slot-is, free-hit, claims-is, name-refl}
@@ -77,7 +77,7 @@ module _ (B : ℕ) (sz : BlockSize B) (img : List ℕ) (ok : Consistent B img) (
   pub at-slot : slotOf B v′ nm ≡ s
   at-slot =
       slot-is B v′ nm (made.apart′ B sz img ok nm z gr) s (made.new-file B sz img ok nm z gr)
-      (subst (λ (x : List ℕ). T (Rattle.tfs_rules.specs.Layout.sameName x nm)) (sym (made.new-name B sz img ok nm z gr)) (name-refl nm))
+      (subst (λ (x : List ℕ). T (Rattle.tfs_spec.specs.Layout.sameName x nm)) (sym (made.new-name B sz img ok nm z gr)) (name-refl nm))
 
   pub hit : slotOf B v′ nm < slots B
   hit = subst (λ (x : ℕ). x < slots B) (sym at-slot) (gr .slot)

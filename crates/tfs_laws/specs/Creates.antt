@@ -10,19 +10,19 @@ use native.Mathlib.Decide.{ℕ-discrete, decLt}
 use lib.ListN.{length, getD, drop, length-drop, getD-replicate}
 use lib.Seq.{getD-drop, drop-cons}
 use lib.Dec.{T, ltb, ltb→lt, nltb→le, T-not}
-use Rattle.lists.specs.Name.{zeros}
-use Rattle.lists.specs.Test.{by-test, cond-yes, cond-no, not-not}
-use Rattle.lists.specs.Table.{table, table-cong, table-same}
-use Rattle.tfs_rules.specs.Layout.{BlockSize, slots, block, setBlock, slot, setSlot, setBits, mapBit, sameName, slotFree, slotInode, slotName, slotUsed, need, maxSize, numbers, nameAllowed, entry, inodeBlock, inodeSize, inodeNumber}
-use Rattle.tfs_rules.specs.View.{View, view, free, used, inode, name, size, number, slotOf, freeSlot, freeBlocks, place, content, contents}
-use Rattle.tfs_rules.specs.Consistent.{File, Owner, inodeOf, contentOf, Owns, Owned, Inside, Sound, Consistent}
-use Rattle.tfs_rules.specs.Claims.{slotIn, owns-file}
-use Rattle.tfs_rules.specs.CheckMeans.{owns-inside, same-sym, need-le, range-in}
-use Rattle.tfs_rules.specs.Requests.{Answer, value, refused, granted, Store, store, storeAll, zeroStores, chosen, placeStores, createStores, createView}
+use Rattle.lists.specs.Lists.{zeros, table, In}
+use Rattle.list_laws.specs.Test.{by-test, cond-yes, cond-no, not-not}
+use Rattle.list_laws.specs.Table.{table-cong, table-same}
+use Rattle.tfs_spec.specs.Layout.{BlockSize, slots, block, setBlock, slot, setSlot, setBits, mapBit, sameName, slotFree, slotInode, slotName, slotUsed, need, maxSize, numbers, nameAllowed, entry, inodeBlock, inodeSize, inodeNumber}
+use Rattle.tfs_spec.specs.View.{View, view, free, used, inode, name, size, number, slotOf, freeSlot, freeBlocks, place, content, contents}
+use Rattle.tfs_spec.specs.Consistent.{File, Owner, inodeOf, contentOf, Owns, Owned, Inside, Sound, Consistent}
+use Rattle.tfs_facts.specs.Claims.{slotIn, owns-file}
+use Rattle.tfs_facts.specs.CheckMeans.{owns-inside, same-sym, need-le, range-in}
+use Rattle.tfs_spec.specs.Requests.{Answer, value, refused, granted, Store, store, storeAll, zeroStores, chosen, placeStores, createStores, createView}
 use Rattle.tfs_facts.specs.Sizes.{in-image, in-need, in-block}
 use Rattle.tfs_facts.specs.Views.{view-n, view-map, view-dir, length-map, length-dir, inode-block}
 use Rattle.tfs_facts.specs.Stores.{Fits, length-storeAll, stored-away, stored-first, storeAll-append, zero-fits, zero-away, zeroed, block-same, length-setBlock, byte-at}
-use Rattle.tfs_facts.specs.MapBits.{length-setBits, In, in-dec, in-at, at-in, mapped-all, Mapped, bits-kept, bits-set}
+use Rattle.tfs_facts.specs.MapBits.{length-setBits, in-dec, in-at, at-in, mapped-all, Mapped, bits-kept, bits-set}
 use Rattle.tfs_facts.specs.Chosen.{CreateGrant, Picked, Choice, choice}
 use Rattle.tfs_laws.specs.Frame.{Frame, n-same, name-same, file-from, owns-to, owns-from}
 use Rattle.tfs_facts.specs.Names.{slot-miss, slot-is, free-hit, length-setSlot, slot-set, slot-unset}

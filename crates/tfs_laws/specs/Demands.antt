@@ -10,18 +10,15 @@ use mathlib.Core.List.{List, [], _∷_, _++_}
 use native.Mathlib.Omega.{arith}
 use lib.ListN.{length, getD, take}
 use lib.Dec.{T}
-use Rattle.lists.specs.Table.{table}
-use Rattle.lists.specs.Name.{zeros}
-use Rattle.lists.specs.Bits.{withBit}
-use Rattle.tfs_rules.specs.Layout.{slots, numbers, maxSize, need, blocks, block, setBit, setBits, labelAllowed, nameAllowed}
-use Rattle.tfs_rules.specs.View.{view, size, number, freeBlocks, content, contents}
-use Rattle.tfs_rules.specs.Check.{Verdict, consistent, broken, check}
-use Rattle.tfs_rules.specs.Consistent.{File, Consistent, FirstBroken}
-use Rattle.tfs_rules.specs.CheckMeans.{check-means, check-breaks}
-use Rattle.tfs_rules.specs.Requests.{Answer, done, value, refused, granted, Outcome, Filled, checked, format, checkAnswer, openAnswer, create, remove, read, write, listAnswer, freeAnswer}
-use Rattle.tfs_rules.specs.Total.{inodeCount, contentCount, adds-up}
+use Rattle.lists.specs.Lists.{table, zeros, withBit, joined}
+use Rattle.tfs_spec.specs.Layout.{slots, numbers, maxSize, need, blocks, block, setBit, setBits, labelAllowed, nameAllowed}
+use Rattle.tfs_spec.specs.View.{view, size, number, freeBlocks, content, contents}
+use Rattle.tfs_spec.specs.Check.{Verdict, consistent, broken, check}
+use Rattle.tfs_spec.specs.Consistent.{File, Consistent, FirstBroken}
+use Rattle.tfs_facts.specs.CheckMeans.{check-means, check-breaks}
+use Rattle.tfs_spec.specs.Requests.{Answer, done, value, refused, granted, Outcome, Filled, checked, format, checkAnswer, openAnswer, create, remove, read, write, listAnswer, freeAnswer}
+use Rattle.tfs_facts.specs.Total.{inodeCount, contentCount, adds-up}
 use Rattle.tfs_facts.specs.Views.{view-n}
-use Rattle.tfs_laws.specs.Writes.{joined}
 use Rattle.tfs_laws.specs.Content.{content-joined}
 use Rattle.tfs_laws.specs.Others.{stands, stands-not}
 use Rattle.tfs_laws.specs.Changes.{Change, creates, removes, writes, perform, refused-keeps, Changed, changed, stays-consistent}

@@ -9,18 +9,18 @@ use native.Mathlib.Omega.{arith}
 use lib.ListN.{length, getD, drop, length-take, length-replicate}
 use lib.Seq.{take-all, getD-append-add}
 use lib.Dec.{T, ltb, eqb, ltb→lt, nltb→le, T-not}
-use Rattle.lists.specs.Test.{all-zero, by-test, cond-yes, cond-no, and-l, no-and, yes-yes}
-use Rattle.lists.specs.Least.{least-all}
-use Rattle.lists.specs.Name.{zeros, padTo}
-use Rattle.lists.specs.Part.{part, getD-part}
-use Rattle.lists.specs.Word.{word, bytes4, word-bytes4}
-use Rattle.tfs_rules.specs.Layout.{BlockSize, slots, block, magic, volumeName, mapBit, setBits, slot, slotFree, labelAllowed, sameName}
-use Rattle.tfs_rules.specs.View.{View, view, free, inode, name, slotOf, slotWith, contents}
-use Rattle.tfs_rules.specs.Check.{tooShort}
-use Rattle.tfs_rules.specs.Consistent.{File, Sound, Consistent}
-use Rattle.tfs_rules.specs.Claims.{slotIn, owns-file}
-use Rattle.tfs_rules.specs.CheckMeans.{check-means}
-use Rattle.tfs_rules.specs.Requests.{done, granted, Outcome, store, storeAll, refuse, formatStores, format}
+use Rattle.list_laws.specs.Test.{all-zero, by-test, cond-yes, cond-no, and-l, no-and, yes-yes}
+use Rattle.list_laws.specs.Least.{least-all}
+use Rattle.lists.specs.Lists.{zeros, padTo, part, word, bytes4}
+use Rattle.list_laws.specs.Part.{getD-part}
+use Rattle.list_laws.specs.Word.{word-bytes4}
+use Rattle.tfs_spec.specs.Layout.{BlockSize, slots, block, magic, volumeName, mapBit, setBits, slot, slotFree, labelAllowed, sameName}
+use Rattle.tfs_spec.specs.View.{View, view, free, inode, name, slotOf, slotWith, contents}
+use Rattle.tfs_spec.specs.Check.{tooShort}
+use Rattle.tfs_spec.specs.Consistent.{File, Sound, Consistent}
+use Rattle.tfs_facts.specs.Claims.{slotIn, owns-file}
+use Rattle.tfs_facts.specs.CheckMeans.{check-means}
+use Rattle.tfs_spec.specs.Requests.{done, granted, Outcome, store, storeAll, refuse, formatStores, format}
 use Rattle.tfs_facts.specs.Views.{view-head, view-map, view-dir}
 use Rattle.tfs_facts.specs.Stores.{Fits, length-storeAll, stored-first, fits-up, stored-past, stored-at}
 use Rattle.tfs_facts.specs.Entries.{length-pad}

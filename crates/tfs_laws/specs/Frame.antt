@@ -7,13 +7,14 @@ use mathlib.Core.List.{List, []}
 use native.Mathlib.Omega.{arith}
 use lib.ListN.{length, getD}
 use lib.Dec.{T}
-use Rattle.lists.specs.Test.{by-test, cond-no}
-use Rattle.lists.specs.Table.{table, table-cong}
-use Rattle.tfs_rules.specs.Layout.{slots, need, blocks, block, slot, slotInode, slotName, slotFree, slotUsed, inRange, inodeSize, inodeNumber}
-use Rattle.tfs_rules.specs.View.{View, view, inodeAt, free, used, inode, name, size, number, place, content}
-use Rattle.tfs_rules.specs.Consistent.{File, Owner, inodeOf, contentOf, Owns, Inside}
-use Rattle.tfs_rules.specs.Claims.{slotIn}
-use Rattle.tfs_rules.specs.CheckMeans.{in-range}
+use Rattle.list_laws.specs.Test.{by-test, cond-no}
+use Rattle.lists.specs.Lists.{table}
+use Rattle.list_laws.specs.Table.{table-cong}
+use Rattle.tfs_spec.specs.Layout.{slots, need, blocks, block, slot, slotInode, slotName, slotFree, slotUsed, inRange, inodeSize, inodeNumber}
+use Rattle.tfs_spec.specs.View.{View, view, inodeAt, free, used, inode, name, size, number, place, content}
+use Rattle.tfs_spec.specs.Consistent.{File, Owner, inodeOf, contentOf, Owns, Inside}
+use Rattle.tfs_facts.specs.Claims.{slotIn}
+use Rattle.tfs_facts.specs.CheckMeans.{in-range}
 use Rattle.tfs_facts.specs.Sizes.{in-need, in-block}
 use Rattle.tfs_facts.specs.Views.{view-n, view-dir, inodes-at}
 use Rattle.tfs_laws.specs.Places.{blocks-eq, file-at}

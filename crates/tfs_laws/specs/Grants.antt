@@ -11,17 +11,17 @@ use lib.ListN.{length, getD, take}
 use lib.Seq.{length-take-le, getD-take}
 use lib.Arith.{le→nltb}
 use lib.Dec.{T, leb, ltb, leb→le, ltb→lt, nltb→le, le→leb, lt→ltb, eqb→eq, T-not, not-T}
-use Rattle.lists.specs.Test.{cond-yes, cond-no, and-of, and-l, and-r, not-not, yes-yes, no-false, to-true, eqb-of, neqb-of}
-use Rattle.lists.specs.Least.{least, least-hit, least-none, least-below, least-all}
-use Rattle.lists.specs.Name.{zeroAt, firstZero}
-use Rattle.tfs_rules.specs.Layout.{BlockSize, slots, maxSize, need, mapBit, slot, nameField, labelAllowed, nameAllowed}
-use Rattle.tfs_rules.specs.View.{View, view, free, used, inode, name, size, slotOf, slotWith, freeSlot, freeBlocks}
-use Rattle.tfs_rules.specs.Check.{consistent, check, tooShort}
-use Rattle.tfs_rules.specs.Consistent.{File, Sound, Consistent}
-use Rattle.tfs_rules.specs.Claims.{count-some}
-use Rattle.tfs_rules.specs.CheckMeans.{check-means, same-means, length-field, used-means, name-means}
-use Rattle.tfs_rules.specs.Room.{free-cursor}
-use Rattle.tfs_rules.specs.Requests.{Answer, done, value, unused, file, refused, granted, Outcome, refuse, openView, openAnswer, freeFrom, chosen, createView, create, removeView, remove, counted, transferView, read, write, listView, listAnswer, format}
+use Rattle.list_laws.specs.Test.{cond-yes, cond-no, and-of, and-l, and-r, not-not, yes-yes, no-false, to-true, eqb-of, neqb-of}
+use Rattle.lists.specs.Lists.{least, zeroAt, firstZero}
+use Rattle.list_laws.specs.Least.{least-hit, least-none, least-below, least-all}
+use Rattle.tfs_spec.specs.Layout.{BlockSize, slots, maxSize, need, mapBit, slot, nameField, labelAllowed, nameAllowed}
+use Rattle.tfs_spec.specs.View.{View, view, free, used, inode, name, size, slotOf, slotWith, freeSlot, freeBlocks}
+use Rattle.tfs_spec.specs.Check.{consistent, check, tooShort}
+use Rattle.tfs_spec.specs.Consistent.{File, Sound, Consistent}
+use Rattle.tfs_facts.specs.Claims.{count-some}
+use Rattle.tfs_facts.specs.CheckMeans.{check-means, same-means, length-field, used-means, name-means}
+use Rattle.tfs_facts.specs.Room.{free-cursor}
+use Rattle.tfs_spec.specs.Requests.{Answer, done, value, unused, file, refused, granted, Outcome, refuse, openView, openAnswer, freeFrom, chosen, createView, create, removeView, remove, counted, transferView, read, write, listView, listAnswer, format}
 use Rattle.tfs_facts.specs.Views.{length-dir}
 use Rattle.tfs_facts.specs.Names.{slot-hit, slot-miss, slot-is, handle-hit, handle-is, free-hit}
 use Rattle.tfs_laws.specs.Changes.{create-is, remove-is}

@@ -6,12 +6,12 @@ use Prim.Native.Nat.{ℕ, _≤_, _<_}
 use mathlib.Core.List.{List, [], _∷_}
 use native.Mathlib.Omega.{arith}
 use lib.Dec.{T, T-not}
-use Rattle.lists.specs.Test.{by-test}
-use Rattle.tfs_rules.specs.Layout.{BlockSize, slots}
-use Rattle.tfs_rules.specs.View.{View, view, free, inode, name, slotOf, slotWith, freeSlot}
-use Rattle.tfs_rules.specs.Consistent.{Sound, Consistent}
-use Rattle.tfs_rules.specs.CheckMeans.{check-means}
-use Rattle.tfs_rules.specs.Requests.{Answer, value, granted, storeAll, createStores, create, removeStores, remove, write}
+use Rattle.list_laws.specs.Test.{by-test}
+use Rattle.tfs_spec.specs.Layout.{BlockSize, slots}
+use Rattle.tfs_spec.specs.View.{View, view, free, inode, name, slotOf, slotWith, freeSlot}
+use Rattle.tfs_spec.specs.Consistent.{Sound, Consistent}
+use Rattle.tfs_facts.specs.CheckMeans.{check-means}
+use Rattle.tfs_spec.specs.Requests.{Answer, value, granted, storeAll, createStores, create, removeStores, remove, write}
 use Rattle.tfs_laws.specs.Frame.{Frame, file-to, name-same, inode-same}
 use Rattle.tfs_laws.specs.WriteLists.{wr, request, request-view}
 use Rattle.tfs_facts.specs.Names.{free-hit}

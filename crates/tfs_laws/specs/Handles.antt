@@ -9,12 +9,12 @@ use native.Mathlib.Decide.{decLt}
 use lib.ListN.{length, getD}
 use lib.Arith.{le→nltb}
 use lib.Dec.{T, ltb, ltb→lt}
-use Rattle.lists.specs.Test.{cond-yes, not-not}
-use Rattle.tfs_rules.specs.Layout.{BlockSize, slots, maxSize, need, nameAllowed}
-use Rattle.tfs_rules.specs.View.{View, view, inode, slotOf, slotWith, freeSlot, freeBlocks}
-use Rattle.tfs_rules.specs.Consistent.{inodeOf, Consistent}
-use Rattle.tfs_rules.specs.CheckMeans.{check-means}
-use Rattle.tfs_rules.specs.Requests.{Answer, value, refused, granted, Outcome, storeAll, openView, openAnswer, chosen, createView, createStores, create, removeStores, remove, transferView, read, write}
+use Rattle.list_laws.specs.Test.{cond-yes, not-not}
+use Rattle.tfs_spec.specs.Layout.{BlockSize, slots, maxSize, need, nameAllowed}
+use Rattle.tfs_spec.specs.View.{View, view, inode, slotOf, slotWith, freeSlot, freeBlocks}
+use Rattle.tfs_spec.specs.Consistent.{inodeOf, Consistent}
+use Rattle.tfs_facts.specs.CheckMeans.{check-means}
+use Rattle.tfs_spec.specs.Requests.{Answer, value, refused, granted, Outcome, storeAll, openView, openAnswer, chosen, createView, createStores, create, removeStores, remove, transferView, read, write}
 use Rattle.tfs_laws.specs.Places.{owner-slot}
 use Rattle.tfs_laws.specs.WriteLists.{wr, request, request-answer}
 use Rattle.tfs_laws.specs.Frame.{inode-same, file-from}

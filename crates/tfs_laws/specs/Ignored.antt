@@ -7,20 +7,20 @@ use native.Mathlib.Omega.{arith}
 use native.Mathlib.Nat.{zero-add}
 use lib.ListN.{length, getD, take, drop, length-take, length-drop}
 use lib.Dec.{leb, ltb, eqb, leb→le, ltb→lt}
-use Rattle.lists.specs.Test.{by-test, cond-yes, cond-no, and-l, and-r}
-use Rattle.lists.specs.Least.{least, least-cong}
-use Rattle.lists.specs.Sum.{sum, sum-cong}
-use Rattle.lists.specs.Name.{firstZero}
-use Rattle.lists.specs.Table.{table, table-cong}
-use Rattle.lists.specs.Word.{word, word-cong}
-use Rattle.lists.specs.Part.{part, getD-part, part-ext}
-use Rattle.tfs_rules.specs.Layout.{BlockSize, slots, numbers, maxSize, need, blocks, block, slot, slotInode, slotName, slotFree, slotUsed, inRange, sameName, mapBit, magic, volumeName, nameAllowed, inodeSize, inodeNumber}
-use Rattle.tfs_rules.specs.View.{View, view, viewN, inodeAt, free, used, inode, name, size, number, slotOf, slotWith, freeSlot, place, freeBlocks}
-use Rattle.tfs_rules.specs.Check.{Verdict, consistent, broken, found, tooShort, badMagic, badLabel, repeats, badSlot, badNumber, badInode, fileClaims, claimsTo, claims, claimedTwice, badBit, checkView, check, times}
-use Rattle.tfs_rules.specs.Requests.{Answer, value, refused, unused, file, granted, checked, checkedOutcome, checkedFilled, readBuffer, openView, openAnswer, freeFrom, chosen, createView, create, removeView, remove, counted, transferView, read, write, listView, listAnswer, freeAnswer}
+use Rattle.list_laws.specs.Test.{by-test, cond-yes, cond-no, and-l, and-r}
+use Rattle.lists.specs.Lists.{least, sum, firstZero, table, word, part}
+use Rattle.list_laws.specs.Least.{least-cong}
+use Rattle.list_laws.specs.Sum.{sum-cong}
+use Rattle.list_laws.specs.Table.{table-cong}
+use Rattle.list_laws.specs.Word.{word-cong}
+use Rattle.list_laws.specs.Part.{getD-part, part-ext}
+use Rattle.tfs_spec.specs.Layout.{BlockSize, slots, numbers, maxSize, need, blocks, block, slot, slotInode, slotName, slotFree, slotUsed, inRange, sameName, mapBit, magic, volumeName, nameAllowed, inodeSize, inodeNumber}
+use Rattle.tfs_spec.specs.View.{View, view, viewN, inodeAt, free, used, inode, name, size, number, slotOf, slotWith, freeSlot, place, freeBlocks}
+use Rattle.tfs_spec.specs.Check.{Verdict, consistent, broken, found, tooShort, badMagic, badLabel, repeats, badSlot, badNumber, badInode, fileClaims, claimsTo, claims, claimedTwice, badBit, checkView, check, times}
+use Rattle.tfs_spec.specs.Requests.{Answer, value, refused, unused, file, granted, checked, checkedOutcome, checkedFilled, readBuffer, openView, openAnswer, freeFrom, chosen, createView, create, removeView, remove, counted, transferView, read, write, listView, listAnswer, freeAnswer}
 use Rattle.tfs_facts.specs.Views.{view-n, view-head, view-map, view-dir}
-use Rattle.tfs_rules.specs.Consistent.{Inside, Sound}
-use Rattle.tfs_rules.specs.CheckMeans.{check-means}
+use Rattle.tfs_spec.specs.Consistent.{Inside, Sound}
+use Rattle.tfs_facts.specs.CheckMeans.{check-means}
 use Rattle.tfs_facts.specs.Sizes.{in-block}
 use Rattle.tfs_laws.specs.Places.{blocks-eq, position}
 use Rattle.tfs_facts.specs.Stores.{block-byte}

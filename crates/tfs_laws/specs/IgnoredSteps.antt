@@ -11,19 +11,19 @@ use lib.ListN.{length, getD, set, take, length-set}
 use lib.Seq.{getD-set-same, getD-set-other, set-out}
 use lib.Arith.{digits-div}
 use lib.Dec.{T}
-use Rattle.lists.specs.Test.{by-test}
-use Rattle.lists.specs.Store.{storeAt}
-use Rattle.lists.specs.Part.{part, part-ext}
-use Rattle.tfs_rules.specs.Layout.{BlockSize, slots, need, blocks, block, slot, mapBit}
-use Rattle.tfs_rules.specs.View.{View, view, size, slotOf, slotWith, freeSlot, place}
-use Rattle.tfs_rules.specs.Check.{check, consistent, fileClaims}
-use Rattle.tfs_rules.specs.Consistent.{File, Consistent}
-use Rattle.tfs_rules.specs.CheckMeans.{check-means}
-use Rattle.tfs_rules.specs.Requests.{Answer, granted, chosen, create, remove, write}
+use Rattle.list_laws.specs.Test.{by-test}
+use Rattle.lists.specs.Lists.{storeAt, part, In}
+use Rattle.list_laws.specs.Part.{part-ext}
+use Rattle.tfs_spec.specs.Layout.{BlockSize, slots, need, blocks, block, slot, mapBit}
+use Rattle.tfs_spec.specs.View.{View, view, size, slotOf, slotWith, freeSlot, place}
+use Rattle.tfs_spec.specs.Check.{check, consistent, fileClaims}
+use Rattle.tfs_spec.specs.Consistent.{File, Consistent}
+use Rattle.tfs_facts.specs.CheckMeans.{check-means}
+use Rattle.tfs_spec.specs.Requests.{Answer, granted, chosen, create, remove, write}
 use Rattle.tfs_facts.specs.Sizes.{apart-blocks}
 use Rattle.tfs_facts.specs.Views.{view-head, view-map, view-dir}
 use Rattle.tfs_facts.specs.Stores.{length-block, block-byte}
-use Rattle.tfs_facts.specs.MapBits.{In, in-dec, in-at}
+use Rattle.tfs_facts.specs.MapBits.{in-dec, in-at}
 use Rattle.tfs_laws.specs.Writes.{step}
 use Rattle.tfs_laws.specs.Places.{filesOf, blocks-eq}
 use Rattle.tfs_laws.specs.WriteLists.{wr, request, putOf, request-image, request-view, request-length}

@@ -6,21 +6,20 @@ use native.Mathlib.Omega.{arith}
 use native.Mathlib.Nat.{div-mul-le-self, mul-le-mul-right}
 use lib.ListN.{length, getD}
 use lib.Dec.{T}
-use Rattle.lists.specs.Test.{by-test}
-use Rattle.lists.specs.Name.{zeros}
-use Rattle.lists.specs.Part.{getD-with-after}
-use Rattle.lists.specs.Word.{words}
-use Rattle.tfs_rules.specs.Layout.{BlockSize, slots, need, blocks, block, mapBit, setBits, setSlot, entry, inodeBlock}
-use Rattle.tfs_rules.specs.View.{View, view, slotOf, freeSlot, freeBlocks}
-use Rattle.tfs_rules.specs.Check.{Verdict, consistent, broken, check, fileClaims}
-use Rattle.tfs_rules.specs.Consistent.{File, Inside, Consistent}
-use Rattle.tfs_rules.specs.CheckMeans.{check-means, owns-inside}
-use Rattle.tfs_rules.specs.Total.{three-blocks}
-use Rattle.tfs_rules.specs.Requests.{granted, Outcome, checkedOutcome, Store, store, storeAll, zeroStores, chosen, placeStores, createStores, create, removeStores, remove, write}
+use Rattle.list_laws.specs.Test.{by-test}
+use Rattle.lists.specs.Lists.{zeros, words, In}
+use Rattle.list_laws.specs.Part.{getD-with-after}
+use Rattle.tfs_spec.specs.Layout.{BlockSize, slots, need, blocks, block, mapBit, setBits, setSlot, entry, inodeBlock}
+use Rattle.tfs_spec.specs.View.{View, view, slotOf, freeSlot, freeBlocks}
+use Rattle.tfs_spec.specs.Check.{Verdict, consistent, broken, check, fileClaims}
+use Rattle.tfs_spec.specs.Consistent.{File, Inside, Consistent}
+use Rattle.tfs_facts.specs.CheckMeans.{check-means, owns-inside}
+use Rattle.tfs_facts.specs.Total.{three-blocks}
+use Rattle.tfs_spec.specs.Requests.{granted, Outcome, checkedOutcome, Store, store, storeAll, zeroStores, chosen, placeStores, createStores, create, removeStores, remove, write}
 use Rattle.tfs_facts.specs.Sizes.{after-block}
 use Rattle.tfs_facts.specs.Views.{view-n, view-head, view-map, view-dir, length-map, length-dir}
 use Rattle.tfs_facts.specs.Stores.{Fits, Away, stored-away, stored-first, zero-fits, zero-away, fits-up, stored-at, fits-append, away-append}
-use Rattle.tfs_facts.specs.MapBits.{In, in-at, mapped-all, length-setBits, bits-kept}
+use Rattle.tfs_facts.specs.MapBits.{in-at, mapped-all, length-setBits, bits-kept}
 use Rattle.tfs_laws.specs.WriteLists.{wr, request, request-view}
 use Rattle.tfs_facts.specs.Names.{slot-hit, length-setSlot, claims-owner}
 use Rattle.tfs_facts.specs.Entries.{length-pad, Allowed, allowed, length-entry}

@@ -4,11 +4,11 @@ use mathlib.Core.Path.{_≡_}
 use Prim.Native.Nat.{ℕ}
 use mathlib.Core.List.{List}
 use lib.Dec.{T, lit<}
-use Rattle.tfs_rules.specs.Layout.{sameName}
-use Rattle.tfs_rules.specs.View.{view, contents}
-use Rattle.tfs_rules.specs.Consistent.{Consistent}
-use Rattle.tfs_rules.specs.CheckMeans.{check-means}
-use Rattle.tfs_rules.specs.Requests.{granted, create}
+use Rattle.tfs_spec.specs.Layout.{sameName}
+use Rattle.tfs_spec.specs.View.{view, contents}
+use Rattle.tfs_spec.specs.Consistent.{Consistent}
+use Rattle.tfs_facts.specs.CheckMeans.{check-means}
+use Rattle.tfs_spec.specs.Requests.{granted, create}
 use Rattle.tfs_facts.specs.Sizes.{size-512}
 use Rattle.tfs_laws.specs.WriteLists.{Write, WritesLaw, writes-law, PiecesLaw, pieces-law}
 use Rattle.tfs_laws.specs.CreateRemove.{BackLaw, back-law}

@@ -6,11 +6,10 @@ use mathlib.Core.List.{List}
 use mathlib.Core.Option.{Option, none, some, Option·map}
 use lib.ListN.{length, getD}
 use lib.Dec.{T, leb, ltb}
-use Rattle.lists.specs.Name.{zeros}
-use Rattle.lists.specs.Table.{table}
-use Rattle.tfs_rules.specs.Layout.{sameName}
-use Rattle.tfs_rules.specs.View.{Contents}
-use Rattle.tfs_rules.specs.CheckMeans.{same-sym}
+use Rattle.lists.specs.Lists.{zeros, table}
+use Rattle.tfs_spec.specs.Layout.{sameName}
+use Rattle.tfs_spec.specs.View.{Contents}
+use Rattle.tfs_facts.specs.CheckMeans.{same-sym}
 use Rattle.tfs_facts.specs.Names.{name-trans}
 
 -- what stands under a name becomes g of it

@@ -5,12 +5,12 @@ use Prim.Native.Nat.{ℕ, _<_}
 use mathlib.Core.List.{List}
 use native.Mathlib.Omega.{arith}
 use lib.Dec.{T, T-not}
-use Rattle.tfs_rules.specs.Layout.{BlockSize, slots, sameName}
-use Rattle.tfs_rules.specs.View.{View, view, free, name, slotOf, slotWith, freeSlot, contents, Contents}
-use Rattle.tfs_rules.specs.Check.{consistent}
-use Rattle.tfs_rules.specs.Consistent.{Sound, Consistent}
-use Rattle.tfs_rules.specs.CheckMeans.{check-means, same-sym}
-use Rattle.tfs_rules.specs.Requests.{granted, storeAll, createStores, removeStores, write}
+use Rattle.tfs_spec.specs.Layout.{BlockSize, slots, sameName}
+use Rattle.tfs_spec.specs.View.{View, view, free, name, slotOf, slotWith, freeSlot, contents, Contents}
+use Rattle.tfs_spec.specs.Check.{consistent}
+use Rattle.tfs_spec.specs.Consistent.{Sound, Consistent}
+use Rattle.tfs_facts.specs.CheckMeans.{check-means, same-sym}
+use Rattle.tfs_spec.specs.Requests.{granted, storeAll, createStores, removeStores, write}
 use Rattle.tfs_laws.specs.WriteLists.{wr, request, request-view}
 use Rattle.tfs_laws.specs.Frame.{Frame, inode-same, name-same, file-to}
 use Rattle.tfs_facts.specs.Names.{slot-hit, handle-hit, handle-is, free-hit}

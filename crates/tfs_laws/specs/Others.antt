@@ -9,11 +9,11 @@ use native.Mathlib.Decide.{decLt}
 use lib.ListN.{length, getD}
 use lib.Dec.{T, ltb, lt→ltb}
 use lib.Arith.{le→nltb}
-use Rattle.lists.specs.Test.{cond-yes, cond-no}
-use Rattle.lists.specs.Word.{word}
-use Rattle.tfs_rules.specs.Layout.{slots, block, sameName, need, maxSize, numbers, volumeName}
-use Rattle.tfs_rules.specs.View.{View, view, free, used, name, size, number, slotOf, content, contents}
-use Rattle.tfs_rules.specs.Consistent.{File, Inside, Sound, Consistent}
+use Rattle.list_laws.specs.Test.{cond-yes, cond-no}
+use Rattle.lists.specs.Lists.{word}
+use Rattle.tfs_spec.specs.Layout.{slots, block, sameName, need, maxSize, numbers, volumeName}
+use Rattle.tfs_spec.specs.View.{View, view, free, used, name, size, number, slotOf, content, contents}
+use Rattle.tfs_spec.specs.Consistent.{File, Inside, Sound, Consistent}
 use Rattle.tfs_facts.specs.Views.{view-head}
 use Rattle.tfs_laws.specs.Content.{standing, contents-at}
 use Rattle.tfs_laws.specs.Frame.{Frame, n-same, free-same, used-same, name-same, size-same, number-same, file-to, file-from, content-same}

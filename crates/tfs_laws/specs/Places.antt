@@ -6,13 +6,14 @@ use Prim.Native.Nat.{ℕ, _+_, _*_, _/_, _%_, _<_, min}
 use mathlib.Core.List.{List, []}
 use native.Mathlib.Omega.{arith}
 use lib.ListN.{length}
-use Rattle.lists.specs.Test.{by-test, cond-no}
-use Rattle.lists.specs.Table.{table, table-cong}
-use Rattle.lists.specs.Part.{part-ext}
-use Rattle.tfs_rules.specs.Layout.{slots, need, blocks, block, slot, slotInode, inRange}
-use Rattle.tfs_rules.specs.View.{View, view, viewN, inodeAt, free, inode, size, number, place}
-use Rattle.tfs_rules.specs.Consistent.{File, inodeOf, contentOf, Owns, Inside, Sound}
-use Rattle.tfs_rules.specs.CheckMeans.{in-range}
+use Rattle.list_laws.specs.Test.{by-test, cond-no}
+use Rattle.lists.specs.Lists.{table}
+use Rattle.list_laws.specs.Table.{table-cong}
+use Rattle.list_laws.specs.Part.{part-ext}
+use Rattle.tfs_spec.specs.Layout.{slots, need, blocks, block, slot, slotInode, inRange}
+use Rattle.tfs_spec.specs.View.{View, view, viewN, inodeAt, free, inode, size, number, place}
+use Rattle.tfs_spec.specs.Consistent.{File, inodeOf, contentOf, Owns, Inside, Sound}
+use Rattle.tfs_facts.specs.CheckMeans.{in-range}
 use Rattle.tfs_facts.specs.Sizes.{split-block, split-offset, rejoin, in-need, in-block, in-image}
 use Rattle.tfs_facts.specs.Views.{view-n, free-inode, has}
 use Rattle.tfs_laws.specs.Writes.{Put, Files, Laid, step, length-step, step-other}

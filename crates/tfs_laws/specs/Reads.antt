@@ -9,13 +9,13 @@ use native.Mathlib.Nat.{zero-add}
 use lib.ListN.{length, getD, take, drop}
 use lib.Arith.{le→nltb}
 use lib.Dec.{T, ltb, ltb→lt, nltb→le, lt→ltb}
-use Rattle.lists.specs.Test.{cond-no, not-not, yes-yes}
-use Rattle.lists.specs.Table.{table}
-use Rattle.tfs_rules.specs.Layout.{slots}
-use Rattle.tfs_rules.specs.View.{View, view, inode, size, slotWith, place, content}
-use Rattle.tfs_rules.specs.Check.{Verdict, consistent, broken, check}
-use Rattle.tfs_rules.specs.Consistent.{File, Sound}
-use Rattle.tfs_rules.specs.Requests.{Answer, value, refused, granted, checkedFilled, counted, transferView, readBuffer, read}
+use Rattle.list_laws.specs.Test.{cond-no, not-not, yes-yes}
+use Rattle.lists.specs.Lists.{table}
+use Rattle.tfs_spec.specs.Layout.{slots}
+use Rattle.tfs_spec.specs.View.{View, view, inode, size, slotWith, place, content}
+use Rattle.tfs_spec.specs.Check.{Verdict, consistent, broken, check}
+use Rattle.tfs_spec.specs.Consistent.{File, Sound}
+use Rattle.tfs_spec.specs.Requests.{Answer, value, refused, granted, checkedFilled, counted, transferView, readBuffer, read}
 use Rattle.tfs_facts.specs.Names.{handle-hit, handle-is}
 use Rattle.tfs_laws.specs.Creates.{value-step, same-value}
 

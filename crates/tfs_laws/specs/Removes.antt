@@ -9,18 +9,18 @@ use native.Mathlib.Omega.{arith}
 use native.Mathlib.Decide.{ℕ-discrete, decLt}
 use lib.ListN.{length}
 use lib.Dec.{T, T-not}
-use Rattle.lists.specs.Name.{zeros}
-use Rattle.lists.specs.Test.{by-test, cond-yes, cond-no, allZero}
-use Rattle.tfs_rules.specs.Layout.{BlockSize, slots, block, setBlock, slot, setSlot, setBits, mapBit, mapByte, sameName, slotFree}
-use Rattle.tfs_rules.specs.View.{View, view, free, name, slotOf, contents}
-use Rattle.tfs_rules.specs.Check.{fileClaims}
-use Rattle.tfs_rules.specs.Consistent.{File, Owner, Owns, Owned, Inside, Sound, Consistent}
-use Rattle.tfs_rules.specs.Claims.{slotIn, owns-file}
-use Rattle.tfs_rules.specs.CheckMeans.{owns-inside, same-sym}
-use Rattle.tfs_rules.specs.Requests.{store, storeAll, removeStores}
+use Rattle.lists.specs.Lists.{zeros, allZero, In}
+use Rattle.list_laws.specs.Test.{by-test, cond-yes, cond-no}
+use Rattle.tfs_spec.specs.Layout.{BlockSize, slots, block, setBlock, slot, setSlot, setBits, mapBit, mapByte, sameName, slotFree}
+use Rattle.tfs_spec.specs.View.{View, view, free, name, slotOf, contents}
+use Rattle.tfs_spec.specs.Check.{fileClaims}
+use Rattle.tfs_spec.specs.Consistent.{File, Owner, Owns, Owned, Inside, Sound, Consistent}
+use Rattle.tfs_facts.specs.Claims.{slotIn, owns-file}
+use Rattle.tfs_facts.specs.CheckMeans.{owns-inside, same-sym}
+use Rattle.tfs_spec.specs.Requests.{store, storeAll, removeStores}
 use Rattle.tfs_facts.specs.Views.{view-n, view-map, view-dir, length-map, length-dir}
 use Rattle.tfs_facts.specs.Stores.{Fits, length-storeAll, stored-away, stored-first, block-same, length-setBlock}
-use Rattle.tfs_facts.specs.MapBits.{in-map, length-setBits, In, in-dec, mapped-all, Mapped, bits-kept, bits-set}
+use Rattle.tfs_facts.specs.MapBits.{in-map, length-setBits, in-dec, mapped-all, Mapped, bits-kept, bits-set}
 use Rattle.tfs_laws.specs.Frame.{Frame, n-same, name-same, file-from, owns-to, owns-from}
 use Rattle.tfs_facts.specs.Names.{name-trans, slot-hit, length-setSlot, slot-set, slot-unset, claims-owner, owner-claims}
 use Rattle.tfs_laws.specs.Others.{consistent-to, stands-not, formed-to, apart-to, small-to, inside-to, rest-to, contents-other}
@@ -35,7 +35,7 @@ low-inside B img h (suc (suc (suc b))) l = absurd (omega arith)
 
 -- the bits of owned blocks lie in the map
 pub map-inside : (B : ℕ) → BlockSize B → (img : List ℕ) → (b : ℕ) → b < view B img .n → mapByte b < B
-unfolding Rattle.tfs_rules.specs.Layout.blocks
+unfolding Rattle.tfs_spec.specs.Layout.blocks
 map-inside B sz img b h =
     in-map B b (sz .whole) (omega (arith, subst (λ (n : ℕ). b < n) (view-n B img) h))
 

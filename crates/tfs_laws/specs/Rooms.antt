@@ -6,14 +6,14 @@ use Prim.Native.Nat.{ℕ, _+_, _<_}
 use mathlib.Core.List.{List}
 use native.Mathlib.Omega.{arith}
 use lib.Dec.{T}
-use Rattle.lists.specs.Test.{by-test, cond-yes, cond-no}
-use Rattle.lists.specs.Sum.{sum-drop}
-use Rattle.tfs_rules.specs.Layout.{BlockSize, slots, need}
-use Rattle.tfs_rules.specs.View.{View, view, free, size, slotOf, freeSlot, freeBlocks}
-use Rattle.tfs_rules.specs.Consistent.{File, Consistent}
-use Rattle.tfs_rules.specs.CheckMeans.{check-means}
-use Rattle.tfs_rules.specs.Total.{inodeCount, contentCount, adds-up}
-use Rattle.tfs_rules.specs.Requests.{granted, storeAll, createStores, create, removeStores, remove, write}
+use Rattle.list_laws.specs.Test.{by-test, cond-yes, cond-no}
+use Rattle.list_laws.specs.Sum.{sum-drop}
+use Rattle.tfs_spec.specs.Layout.{BlockSize, slots, need}
+use Rattle.tfs_spec.specs.View.{View, view, free, size, slotOf, freeSlot, freeBlocks}
+use Rattle.tfs_spec.specs.Consistent.{File, Consistent}
+use Rattle.tfs_facts.specs.CheckMeans.{check-means}
+use Rattle.tfs_facts.specs.Total.{inodeCount, contentCount, adds-up}
+use Rattle.tfs_spec.specs.Requests.{granted, storeAll, createStores, create, removeStores, remove, write}
 use Rattle.tfs_laws.specs.Frame.{Frame, n-same, free-same, size-same}
 use Rattle.tfs_laws.specs.WriteLists.{wr, request, request-view}
 use Rattle.tfs_facts.specs.Names.{free-hit}

@@ -8,16 +8,17 @@ use native.Mathlib.Decide.{decLe, decLt, ℕ-discrete}
 use lib.ListN.{length, getD, take, drop, length-take, set, length-set}
 use lib.Seq.{ext-getD, getD-set-same, getD-set-other}
 use lib.Dec.{T, T-not, leb, ltb, ltb→lt, lt→ltb}
-use Rattle.lists.specs.Test.{by-test, and-r, cond-yes, cond-no, iff-eq}
-use Rattle.lists.specs.Table.{table, table-cong}
-use Rattle.lists.specs.Store.{storeAt, length-store}
-use Rattle.lists.specs.Part.{withPart, getD-part, getD-with-in, getD-with-before, getD-with-after}
-use Rattle.tfs_rules.specs.Layout.{BlockSize, slots, blocks, block, setBlock, slot, slotInode, inRange, labelAllowed}
-use Rattle.tfs_rules.specs.View.{View, view, viewN, inodeAt, size as fileSize, number, slotWith, place, freeBlocks}
-use Rattle.tfs_rules.specs.Check.{Verdict, consistent, broken, check, checkView, tooShort}
-use Rattle.tfs_rules.specs.Consistent.{Sound}
-use Rattle.tfs_rules.specs.CheckMeans.{check-means}
-use Rattle.tfs_rules.specs.Requests.{Answer, done, value, granted, Outcome, Filled, checked, checkedOutcome, checkedFilled, refuse, Store, stored, storeAll, formatStores, format, checkAnswer, openView, openAnswer, createStores, createView, create, removeStores, removeView, remove, counted, transferView, readBuffer, read, writeImage, write, listView, listAnswer, freeAnswer}
+use Rattle.list_laws.specs.Test.{by-test, and-r, cond-yes, cond-no, iff-eq}
+use Rattle.lists.specs.Lists.{table, storeAt, withPart}
+use Rattle.list_laws.specs.Table.{table-cong}
+use Rattle.list_laws.specs.Store.{length-store}
+use Rattle.list_laws.specs.Part.{getD-part, getD-with-in, getD-with-before, getD-with-after}
+use Rattle.tfs_spec.specs.Layout.{BlockSize, slots, blocks, block, setBlock, slot, slotInode, inRange, labelAllowed}
+use Rattle.tfs_spec.specs.View.{View, view, viewN, inodeAt, size as fileSize, number, slotWith, place, freeBlocks}
+use Rattle.tfs_spec.specs.Check.{Verdict, consistent, broken, check, checkView, tooShort}
+use Rattle.tfs_spec.specs.Consistent.{Sound}
+use Rattle.tfs_facts.specs.CheckMeans.{check-means}
+use Rattle.tfs_spec.specs.Requests.{Answer, done, value, granted, Outcome, Filled, checked, checkedOutcome, checkedFilled, refuse, Store, stored, storeAll, formatStores, format, checkAnswer, openView, openAnswer, createStores, createView, create, removeStores, removeView, remove, counted, transferView, readBuffer, read, writeImage, write, listView, listAnswer, freeAnswer}
 use Rattle.tfs_facts.specs.Sizes.{after-block, in-image, in-block}
 use Rattle.tfs_facts.specs.Views.{view-n}
 use Rattle.tfs_laws.specs.Places.{blocks-eq, filesOf, position}

@@ -10,22 +10,21 @@ use native.Mathlib.Decide.{ℕ-discrete, decLt}
 use lib.ListN.{length, getD, take, drop, length-take, getD-replicate}
 use lib.Seq.{getD-take}
 use lib.Dec.{T}
-use Rattle.lists.specs.Test.{to-true}
-use Rattle.lists.specs.Least.{least-below}
-use Rattle.lists.specs.Name.{zeros, padTo}
-use Rattle.lists.specs.Word.{bytes4, words}
-use Rattle.lists.specs.Part.{getD-with-in, getD-with-before, getD-with-after}
-use Rattle.tfs_rules.specs.Layout.{BlockSize, slots, need, block, mapBit, slot, setSlot, entry, inodeSize, inodeNumber, inodeBlock}
-use Rattle.tfs_rules.specs.View.{View, view, free, inode, size, number, slotOf, freeSlot}
-use Rattle.tfs_rules.specs.Check.{fileClaims}
-use Rattle.tfs_rules.specs.Consistent.{File, Owner, inodeOf, contentOf, Owns, Consistent}
-use Rattle.tfs_rules.specs.Claims.{slotIn}
-use Rattle.tfs_rules.specs.CheckMeans.{check-means}
-use Rattle.tfs_rules.specs.Room.{FreeIn, free-marked, free-clear, free-rising}
-use Rattle.tfs_rules.specs.Requests.{Answer, value, granted, storeAll, freeFrom, chosen, createStores, create, removeStores, remove}
+use Rattle.list_laws.specs.Test.{to-true}
+use Rattle.list_laws.specs.Least.{least-below}
+use Rattle.lists.specs.Lists.{zeros, padTo, bytes4, words, In}
+use Rattle.list_laws.specs.Part.{getD-with-in, getD-with-before, getD-with-after}
+use Rattle.tfs_spec.specs.Layout.{BlockSize, slots, need, block, mapBit, slot, setSlot, entry, inodeSize, inodeNumber, inodeBlock}
+use Rattle.tfs_spec.specs.View.{View, view, free, inode, size, number, slotOf, freeSlot}
+use Rattle.tfs_spec.specs.Check.{fileClaims}
+use Rattle.tfs_spec.specs.Consistent.{File, Owner, inodeOf, contentOf, Owns, Consistent}
+use Rattle.tfs_facts.specs.Claims.{slotIn}
+use Rattle.tfs_facts.specs.CheckMeans.{check-means}
+use Rattle.tfs_facts.specs.Room.{FreeIn, free-marked, free-clear, free-rising}
+use Rattle.tfs_spec.specs.Requests.{Answer, value, granted, storeAll, freeFrom, chosen, createStores, create, removeStores, remove}
 use Rattle.tfs_facts.specs.Views.{view-map, view-dir, length-dir}
 use Rattle.tfs_facts.specs.Stores.{block-byte}
-use Rattle.tfs_facts.specs.MapBits.{In, in-at, at-in}
+use Rattle.tfs_facts.specs.MapBits.{in-at, at-in}
 use Rattle.tfs_facts.specs.Names.{claims-owner, owner-claims}
 use Rattle.tfs_facts.specs.Entries.{length-entry, allowed, inode-size, inode-number, inode-rest}
 use Rattle.tfs_facts.specs.Chosen.{CreateGrant, Choice, choice}

@@ -9,19 +9,18 @@ use native.Mathlib.Decide.{decLe}
 use lib.ListN.{length, getD, take, length-take, length-append}
 use lib.Seq.{take-all, take-nil}
 use lib.Dec.{leb, ltb, eqb, ltb→lt, nltb→le}
-use Rattle.lists.specs.Test.{by-test, cond-yes, cond-no, yes-yes}
-use Rattle.lists.specs.Least.{least-le}
-use Rattle.lists.specs.Store.{storeAt}
-use Rattle.tfs_rules.specs.Layout.{slots, inodeSize}
+use Rattle.list_laws.specs.Test.{by-test, cond-yes, cond-no, yes-yes}
+use Rattle.list_laws.specs.Least.{least-le}
+use Rattle.lists.specs.Lists.{storeAt, table, joined}
+use Rattle.tfs_spec.specs.Layout.{slots, inodeSize}
 use mathlib.Core.Option.{Option·map}
-use Rattle.lists.specs.Table.{table}
-use Rattle.tfs_rules.specs.View.{View, view, free, inode, size, slotWith, slotOf, place, contents}
-use Rattle.tfs_rules.specs.Check.{consistent, broken, check, checkView, tooShort}
-use Rattle.tfs_rules.specs.Consistent.{Sound}
-use Rattle.tfs_rules.specs.Requests.{Answer, done, value, unused, file, refused, granted, Outcome, counted, transferView, writeImage, write}
+use Rattle.tfs_spec.specs.View.{View, view, free, inode, size, slotWith, slotOf, place, contents}
+use Rattle.tfs_spec.specs.Check.{consistent, broken, check, checkView, tooShort}
+use Rattle.tfs_spec.specs.Consistent.{Sound}
+use Rattle.tfs_spec.specs.Requests.{Answer, done, value, unused, file, refused, granted, Outcome, counted, transferView, writeImage, write}
 use Rattle.tfs_facts.specs.Views.{inodes-out}
 use Rattle.tfs_laws.specs.Content.{contents-at, contents-in, standing-map, content-by}
-use Rattle.tfs_laws.specs.Writes.{Put, put, Files, effect, step, run, covers, lastOf, last-write, rest-kept, length-step, joined, step-join}
+use Rattle.tfs_laws.specs.Writes.{Put, put, Files, effect, step, run, covers, lastOf, last-write, rest-kept, length-step, step-join}
 use Rattle.tfs_laws.specs.Places.{filesOf, laid, view-kept}
 
 pub record Write : Type 0 where
@@ -118,7 +117,7 @@ image-core slot all size o a img bs end le =
 
 -- there is no file past the last slot
 pub no-file : (B : ℕ) (img : List ℕ) (s : ℕ) → s ≡ slots B → size (view B img) s ≡ 0
-unfolding size inodeSize Rattle.lists.specs.Word.word
+unfolding size inodeSize Rattle.lists.specs.Lists.word
 no-file B img s e = ap inodeSize (inodes-out B img s (omega arith))
 
 pub slotWith-le : (B : ℕ) (v : View) (h : ℕ) → slotWith B v h ≤ slots B

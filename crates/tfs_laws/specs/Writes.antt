@@ -10,8 +10,9 @@ use native.Mathlib.Decide.{decLe}
 use lib.ListN.{length, getD, take, length-take}
 use lib.Seq.{getD-take}
 use lib.Dec.{T, leb, ltb, eqb, eqb→eq, leb→le, ltb→lt, eqb-refl, le→leb, lt→ltb, T-not}
-use Rattle.lists.specs.Test.{by-test, cond-yes, cond-no, and-of, and-l, and-r}
-use Rattle.lists.specs.Store.{storeAt, length-store, store-other, store-at, store-join}
+use Rattle.lists.specs.Lists.{joined, storeAt}
+use Rattle.list_laws.specs.Test.{by-test, cond-yes, cond-no, and-of, and-l, and-r}
+use Rattle.list_laws.specs.Store.{length-store, store-other, store-at, store-join}
 
 -- bytes for the file in a slot, from an offset on
 pub record Put : Type 0 where
@@ -124,11 +125,6 @@ module _ (v : Files) where
   pub rest-kept : (ws : List Put) (img : List ℕ) (q : ℕ) → ((s p : ℕ) → p < v .size s → q ≢ v .place s p) → getD (run v img ws) q 0 ≡ getD img q 0
   rest-kept [] img q far = refl
   rest-kept (w ∷ ws) img q far = rest-kept ws (step v img w) q far ∙ step-other img w q (far (w .slot))
-
--- ---- pieces
-abbrev pub joined : List (List ℕ) → List ℕ
-joined [] = []
-joined (b ∷ bs) = b ++ joined bs
 
 -- the first k of two lists
 pub take-join : (k : ℕ) (b c : List ℕ) → take k (b ++ c) ≡ take k b ++ take (k - length b) c

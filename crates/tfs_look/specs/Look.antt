@@ -7,13 +7,12 @@ use native.Mathlib.Omega.{arith}
 use lib.ListN.{length, take}
 use lib.Seq.{take-at, take-all}
 use borrow.Author.Tests.{lt-ltb, le-ltb}
-use Rattle.lists.specs.Name.{zeros, padTo}
-use Rattle.lists.specs.Part.{part}
-use Rattle.tfs_rules.specs.Layout.{nameAllowed, blocks, block, slot, slotFree, slotInode, slotName, inodeSize}
-use Rattle.tfs_rules.specs.View.{View, view, free, inode, name, size, freeBlocks}
-use Rattle.tfs_rules.specs.Check.{consistent, check}
-use Rattle.tfs_rules.specs.Consistent.{File}
-use Rattle.tfs_rules.specs.Requests.{value, refused, unused, file, openView, listView}
+use Rattle.lists.specs.Lists.{zeros, padTo, part}
+use Rattle.tfs_spec.specs.Layout.{nameAllowed, blocks, block, slot, slotFree, slotInode, slotName, inodeSize}
+use Rattle.tfs_spec.specs.View.{View, view, free, inode, name, size, freeBlocks}
+use Rattle.tfs_spec.specs.Check.{consistent, check}
+use Rattle.tfs_spec.specs.Consistent.{File}
+use Rattle.tfs_spec.specs.Requests.{value, refused, unused, file, openView, listView}
 use Rattle.tfs_facts.specs.Views.{view-n}
 use Rattle.tfs_dir.specs.Find.{findName}
 use Rattle.tfs_map.specs.Free.{freeBelow, free-blocks}

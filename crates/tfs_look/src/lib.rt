@@ -1,9 +1,9 @@
 // Requests that only look: open, list, free bytes.
 ghost use mathlib.Core.Path.{_≡_};
 ghost use Prim.Native.Nat.{_*_};
-ghost use Rattle.tfs_rules.specs.View.{view, freeBlocks};
-ghost use Rattle.tfs_rules.specs.Check.{consistent, check};
-ghost use Rattle.tfs_rules.specs.Requests.{openView, openAnswer, listView, listAnswer, freeAnswer, value};
+ghost use Rattle.tfs_spec.specs.View.{view, freeBlocks};
+ghost use Rattle.tfs_spec.specs.Check.{consistent, check};
+ghost use Rattle.tfs_spec.specs.Requests.{openView, openAnswer, listView, listAnswer, freeAnswer, value};
 ghost use Rattle.tfs_answers.specs.Told.{answerTold, AnswerFits, listingTold, listedName, EntryFits};
 use tfs_answers::Answer;
 use tfs_answers::Entry;

@@ -5,7 +5,7 @@ use native.Mathlib.Numerals.{add-one}
 use mathlib.Core.List.{List, [], _∷_, _++_}
 use lib.ListN.{length, getD, take}
 use lib.Seq.{take-suc}
-use Rattle.tfs_rules.specs.Layout.{setBit, setBits}
+use Rattle.tfs_spec.specs.Layout.{setBit, setBits}
 
 pub bits-append : (map : List ℕ) (v : ℕ) (xs ys : List ℕ) → setBits map v (xs ++ ys) ≡ setBits (setBits map v xs) v ys
 bits-append map v [] ys = refl

@@ -6,11 +6,11 @@ use native.Mathlib.Omega.{arith}
 use mathlib.Core.List.{List}
 use lib.ListN.{getD}
 use lib.Dec.{eqb}
-use Rattle.lists.specs.Bits.{bitOf}
-use Rattle.lists.specs.Least.{Below, least, least-below}
-use Rattle.lists.specs.Test.{no-false}
+use Rattle.lists.specs.Lists.{bitOf, least}
+use Rattle.list_laws.specs.Least.{Below, least-below}
+use Rattle.list_laws.specs.Test.{no-false}
 use Rattle.spans.specs.Alike.{wordDiffers, word-bytes}
-use Rattle.tfs_rules.specs.Layout.{mapBit}
+use Rattle.tfs_spec.specs.Layout.{mapBit}
 
 -- whether bit k differs
 unfoldable pub bitDiffers : List ℕ → List ℕ → ℕ → Bool

@@ -7,11 +7,11 @@ use native.Mathlib.Omega.{arith}
 use mathlib.Core.List.{List, _∷_}
 use lib.ListN.{length, getD, drop}
 use lib.Seq.{drop-cons}
-use Rattle.lists.specs.Sum.{sum, count}
-use Rattle.tfs_rules.specs.Layout.{mapBit}
-use Rattle.tfs_rules.specs.View.{View, freeBlocks}
-use Rattle.tfs_rules.specs.Room.{free-below, free-member}
-use Rattle.tfs_rules.specs.Requests.{freeFrom}
+use Rattle.lists.specs.Lists.{sum, count}
+use Rattle.tfs_spec.specs.Layout.{mapBit}
+use Rattle.tfs_spec.specs.View.{View, freeBlocks}
+use Rattle.tfs_facts.specs.Room.{free-below, free-member}
+use Rattle.tfs_spec.specs.Requests.{freeFrom}
 use Rattle.tfs_map.specs.Under.{Under}
 
 -- how many of the first n blocks are free

@@ -6,10 +6,11 @@ use native.Mathlib.Omega.{arith}
 use mathlib.Core.List.{List}
 use lib.ListN.{getD}
 use lib.Dec.{T, leb, eqb, leb→le, eqb→eq}
-use Rattle.lists.specs.Bits.{bitOf, bit-zero}
-use Rattle.lists.specs.Test.{to-true, of-true, and-l, and-r}
+use Rattle.lists.specs.Lists.{bitOf}
+use Rattle.list_laws.specs.Bits.{bit-zero}
+use Rattle.list_laws.specs.Test.{to-true, of-true, and-l, and-r}
 use Rattle.spans.specs.Alike.{wordIs, word-filled}
-use Rattle.tfs_rules.specs.Layout.{mapByte, mapBit}
+use Rattle.tfs_spec.specs.Layout.{mapByte, mapBit}
 use Rattle.tfs_map.specs.Free.{freeBelow, nextFree, free-held, free-more, next-past}
 
 -- ---- the bits of a word of one byte

@@ -2,7 +2,7 @@
 ghost use mathlib.Core.Path.{_≡_};
 ghost use Prim.Native.Nat.{_%_, _<_};
 ghost use lib.ListN.{length};
-ghost use Rattle.tfs_rules.specs.Layout.{mapByte, mapBit, setBit};
+ghost use Rattle.tfs_spec.specs.Layout.{mapByte, mapBit, setBit};
 use spans::bits::bit_of;
 use spans::bits::with_one;
 use spans::bits::with_zero;

@@ -1,7 +1,7 @@
 // The bits of a list of blocks.
 ghost use mathlib.Core.Path.{_≡_};
 ghost use lib.ListN.{length};
-ghost use Rattle.tfs_rules.specs.Layout.{setBits};
+ghost use Rattle.tfs_spec.specs.Layout.{setBits};
 ghost use Rattle.tfs_map.specs.Under.{Under};
 use crate::bit::clear_bit;
 use crate::bit::set_bit;

@@ -3,7 +3,7 @@ ghost use mathlib.Core.Path.{_≡_};
 ghost use mathlib.Core.List.{_++_};
 ghost use Prim.Native.Nat.{_+_, _-_, _*_, _≤_, _<_};
 ghost use lib.ListN.{length, take, drop};
-ghost use Rattle.tfs_rules.specs.Requests.{freeFrom};
+ghost use Rattle.tfs_spec.specs.Requests.{freeFrom};
 ghost use Rattle.tfs_map.specs.Free.{freeBelow, nextFree};
 ghost use Rattle.tfs_map.specs.Words.{wordHeld, heldFrom};
 use crate::bit::map_bit;

@@ -6,10 +6,9 @@ use native.Mathlib.Numerals.{add-one}
 use native.Mathlib.Omega.{arith}
 use lib.ListN.{length, getD, take, drop, replicate, length-take, length-drop}
 use lib.Seq.{take-suc}
-use Rattle.lists.specs.Name.{zeros}
-use Rattle.lists.specs.Part.{withPart}
-use Rattle.tfs_rules.specs.Layout.{setBlock}
-use Rattle.tfs_rules.specs.Requests.{Store, store, storeAll, zeroStores}
+use Rattle.lists.specs.Lists.{zeros, withPart}
+use Rattle.tfs_spec.specs.Layout.{setBlock}
+use Rattle.tfs_spec.specs.Requests.{Store, store, storeAll, zeroStores}
 use Rattle.tfs_facts.specs.Stores.{storeAll-append}
 
 pub zero-append : (B : ℕ) (xs ys : List ℕ) → zeroStores B (xs ++ ys) ≡ zeroStores B xs ++ zeroStores B ys

@@ -6,7 +6,8 @@ use native.Mathlib.Omega.{arith}
 use native.Mathlib.Nat.{add-zero, zero-add, sub-zero}
 use lib.ListN.{length, getD, take, drop, length-take, length-drop, drop-of-length-le}
 use lib.Seq.{ext-getD, getD-take, getD-drop, take-at, drop-at, take-all, drop-drop}
-use Rattle.lists.specs.Table.{table, length-table, getD-table}
+use Rattle.lists.specs.Lists.{table}
+use Rattle.list_laws.specs.Table.{length-table, getD-table}
 use Rattle.tfs_runs.specs.Place.{at, at-run}
 
 -- one table after another

@@ -6,8 +6,8 @@ use native.Mathlib.Omega.{arith}
 use native.Mathlib.Nat.{add-zero, sub-zero}
 use lib.ListN.{length, set, take, drop}
 use lib.Seq.{sets, sets-eq, drop-drop, length-take-le, take-add, take-take}
-use Rattle.lists.specs.Part.{withPart}
-use Rattle.lists.specs.Store.{storeAt, store-join}
+use Rattle.lists.specs.Lists.{withPart, storeAt}
+use Rattle.list_laws.specs.Store.{store-join}
 use Rattle.tfs_runs.specs.Place.{at, at-run}
 
 -- only the addresses of the positions stored to count

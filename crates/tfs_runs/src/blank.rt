@@ -2,9 +2,9 @@
 ghost use mathlib.Core.Path.{_≡_};
 ghost use Prim.Native.Nat.{_+_, _*_, _≤_};
 ghost use lib.ListN.{length};
-ghost use Rattle.lists.specs.Name.{zeros};
-ghost use Rattle.tfs_rules.specs.Layout.{setBlock};
-ghost use Rattle.tfs_rules.specs.Requests.{storeAll, zeroStores};
+ghost use Rattle.lists.specs.Lists.{zeros};
+ghost use Rattle.tfs_spec.specs.Layout.{setBlock};
+ghost use Rattle.tfs_spec.specs.Requests.{storeAll, zeroStores};
 ghost use Rattle.tfs_runs.specs.Place.{Inside};
 use crate::run::wide;
 

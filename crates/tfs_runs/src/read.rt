@@ -3,7 +3,7 @@ ghost use mathlib.Core.Path.{_≡_};
 ghost use mathlib.Core.List.{_++_};
 ghost use Prim.Native.Nat.{_+_, _-_, _*_, _%_, _≤_, _<_, min};
 ghost use lib.ListN.{length, getD, drop};
-ghost use Rattle.lists.specs.Table.{table};
+ghost use Rattle.lists.specs.Lists.{table};
 ghost use Rattle.tfs_runs.specs.Place.{at, Inside};
 use crate::run::place;
 use crate::run::room;

@@ -2,7 +2,7 @@
 ghost use mathlib.Core.Path.{_≡_};
 ghost use Prim.Native.Nat.{_+_, _-_, _*_, _%_, _≤_, _<_, min};
 ghost use lib.ListN.{length, take};
-ghost use Rattle.lists.specs.Store.{storeAt};
+ghost use Rattle.lists.specs.Lists.{storeAt};
 ghost use Rattle.tfs_runs.specs.Place.{at, Inside};
 use crate::run::place;
 use crate::run::room;

@@ -4,11 +4,11 @@ use Prim.Native.Nat.{ℕ, _+_, _*_, _≤_, _<_}
 use mathlib.Core.List.{List, [], _∷_}
 use lib.ListN.{length}
 use native.Mathlib.Omega.{arith}
-use Rattle.lists.specs.Name.{zeros}
-use Rattle.tfs_rules.specs.Layout.{slots, block, setBlock, setBits, setSlot}
-use Rattle.tfs_rules.specs.View.{view, slotOf}
-use Rattle.tfs_rules.specs.Check.{fileClaims}
-use Rattle.tfs_rules.specs.Requests.{Store, store, storeAll, removeStores}
+use Rattle.lists.specs.Lists.{zeros}
+use Rattle.tfs_spec.specs.Layout.{slots, block, setBlock, setBits, setSlot}
+use Rattle.tfs_spec.specs.View.{view, slotOf}
+use Rattle.tfs_spec.specs.Check.{fileClaims}
+use Rattle.tfs_spec.specs.Requests.{Store, store, storeAll, removeStores}
 use Rattle.tfs_facts.specs.Views.{view-map, view-dir}
 use Rattle.tfs_facts.specs.Stores.{length-block, block-other}
 use Rattle.tfs_facts.specs.Names.{length-setSlot}

@@ -4,11 +4,9 @@ use Prim.Native.Nat.{ℕ, suc, _+_, _-_, _*_, _≤_}
 use mathlib.Core.List.{List, [], _∷_, _++_}
 use native.Mathlib.Omega.{arith}
 use lib.ListN.{length, take, drop, length-take, length-drop}
-use Rattle.lists.specs.Name.{zeros, padTo}
-use Rattle.lists.specs.Word.{bytes4}
-use Rattle.lists.specs.Part.{withPart}
-use Rattle.tfs_rules.specs.Layout.{setBlock, magic, setBit, setBits}
-use Rattle.tfs_rules.specs.Requests.{storeAll, formatStores}
+use Rattle.lists.specs.Lists.{zeros, padTo, bytes4, withPart}
+use Rattle.tfs_spec.specs.Layout.{setBlock, magic, setBit, setBits}
+use Rattle.tfs_spec.specs.Requests.{storeAll, formatStores}
 use Rattle.tfs_dir.specs.Entry.{pad-with}
 
 -- block 0: the magic number, then the label and zeros

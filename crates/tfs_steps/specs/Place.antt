@@ -5,9 +5,9 @@ use mathlib.Core.List.{List, [], _∷_}
 use lib.ListN.{length, getD, take, drop}
 use lib.Seq.{take-all}
 use native.Mathlib.Omega.{arith}
-use Rattle.tfs_rules.specs.Layout.{blocks, block, setBlock, setBits, setSlot, entry, inodeBlock}
-use Rattle.tfs_rules.specs.View.{view}
-use Rattle.tfs_rules.specs.Requests.{storeAll, zeroStores, placeStores}
+use Rattle.tfs_spec.specs.Layout.{blocks, block, setBlock, setBits, setSlot, entry, inodeBlock}
+use Rattle.tfs_spec.specs.View.{view}
+use Rattle.tfs_spec.specs.Requests.{storeAll, zeroStores, placeStores}
 use Rattle.tfs_facts.specs.Stores.{Fits, length-block, length-setBlock, block-other, length-storeAll, stored-away, storeAll-append, zero-fits, zero-away}
 use Rattle.tfs_facts.specs.MapBits.{length-setBits}
 use Rattle.tfs_facts.specs.Views.{view-map, view-dir}

@@ -2,7 +2,7 @@
 ghost use mathlib.Core.Path.{_≡_};
 ghost use Prim.Native.Nat.{_≤_, _<_};
 ghost use lib.ListN.{length};
-ghost use Rattle.tfs_rules.specs.Requests.{storeAll};
+ghost use Rattle.tfs_spec.specs.Requests.{storeAll};
 ghost use Rattle.tfs_map.specs.Under.{Under};
 ghost use Rattle.tfs_steps.specs.Erase.{eraseStores};
 use crate::low::release;

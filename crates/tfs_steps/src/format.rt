@@ -2,8 +2,8 @@
 ghost use mathlib.Core.Path.{_≡_};
 ghost use Prim.Native.Nat.{_≤_};
 ghost use lib.ListN.{length};
-ghost use Rattle.tfs_rules.specs.Layout.{setBlock};
-ghost use Rattle.tfs_rules.specs.Requests.{storeAll, formatStores};
+ghost use Rattle.tfs_spec.specs.Layout.{setBlock};
+ghost use Rattle.tfs_spec.specs.Requests.{storeAll, formatStores};
 ghost use Rattle.tfs_steps.specs.Format.{freshHead, freshMap, freshDir};
 use spans::copy::copy;
 use spans::copy::zero;

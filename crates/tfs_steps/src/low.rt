@@ -2,7 +2,7 @@
 ghost use mathlib.Core.Path.{_≡_};
 ghost use Prim.Native.Nat.{_≤_, _<_};
 ghost use lib.ListN.{length, replicate};
-ghost use Rattle.tfs_rules.specs.Layout.{block, setBlock, setBits, setSlot, entry};
+ghost use Rattle.tfs_spec.specs.Layout.{block, setBlock, setBits, setSlot, entry};
 ghost use Rattle.tfs_map.specs.Under.{Under};
 use tfs_dir::write::clear_slot;
 use tfs_dir::write::put_slot;

@@ -6,9 +6,9 @@ use native.Mathlib.Numerals.{add-one}
 use native.Mathlib.Omega.{arith}
 use mathlib.Core.List.{List, [], _∷_, _++_}
 use lib.ListN.{length, take, drop}
-use Rattle.tfs_rules.specs.Layout.{blocks, setBits, need, inodeSize}
-use Rattle.tfs_rules.specs.View.{View, view, free, inode}
-use Rattle.tfs_rules.specs.Check.{fileClaims, claimsTo, claims}
+use Rattle.tfs_spec.specs.Layout.{blocks, setBits, need, inodeSize}
+use Rattle.tfs_spec.specs.View.{View, view, free, inode}
+use Rattle.tfs_spec.specs.Check.{fileClaims, claimsTo, claims}
 use Rattle.tfs_map.specs.Bits.{bits-append}
 use Rattle.tfs_inode.specs.Claims.{Within, claimList, file-claims, claims-within, doubled, doubled-none, doubled-append}
 use Rattle.tfs_inode.specs.Wrong.{inodeWrong, right-need}

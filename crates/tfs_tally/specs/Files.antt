@@ -7,13 +7,13 @@ use mathlib.Core.List.{List, []}
 use lib.ListN.{length, getD, take, drop}
 use lib.Dec.{T, leb, ltb, eqb, leb→le, ltb→lt}
 use borrow.Author.Tests.{eq-eqb, ne-eqb}
-use Rattle.lists.specs.Test.{of-true, no-false, and-l, and-r}
-use Rattle.lists.specs.Least.{least, least-none}
-use Rattle.lists.specs.Part.{part}
-use Rattle.tfs_rules.specs.Layout.{blocks, block, slot, slotInode, slotUsed, inRange, nameFormed, nameField}
-use Rattle.tfs_rules.specs.View.{View, view, viewN, free, used, inode}
-use Rattle.tfs_rules.specs.Check.{repeats, badSlot, badInode, fileClaims}
-use Rattle.tfs_rules.specs.Consistent.{Inside}
+use Rattle.list_laws.specs.Test.{of-true, no-false, and-l, and-r}
+use Rattle.lists.specs.Lists.{least, part}
+use Rattle.list_laws.specs.Least.{least-none}
+use Rattle.tfs_spec.specs.Layout.{blocks, block, slot, slotInode, slotUsed, inRange, nameFormed, nameField}
+use Rattle.tfs_spec.specs.View.{View, view, viewN, free, used, inode}
+use Rattle.tfs_spec.specs.Check.{repeats, badSlot, badInode, fileClaims}
+use Rattle.tfs_spec.specs.Consistent.{Inside}
 use Rattle.tfs_facts.specs.Sizes.{in-image}
 use Rattle.tfs_facts.specs.Views.{view-n, inode-block, free-inode}
 use Rattle.tfs_inode.specs.Claims.{claimList, file-claims}

@@ -9,14 +9,14 @@ use mathlib.Core.List.{List, [], _∷_, _++_, append-nil, append-assoc}
 use lib.ListN.{length, length-replicate}
 use lib.Dec.{leb, ltb}
 use borrow.Author.Tests.{le-ltb, le-leb, lt-leb}
-use Rattle.lists.specs.Name.{zeros}
-use Rattle.lists.specs.Sum.{one-yes, one-no}
-use Rattle.lists.specs.Test.{of-true}
-use Rattle.lists.specs.Least.{least, least-all, least-more, least-cong}
-use Rattle.tfs_rules.specs.Layout.{mapByte, mapBit, setBit, setBits}
-use Rattle.tfs_rules.specs.View.{View}
-use Rattle.tfs_rules.specs.Check.{times, claimedTwice, badBit}
-use Rattle.tfs_rules.specs.Claims.{times-append}
+use Rattle.lists.specs.Lists.{zeros, least}
+use Rattle.list_laws.specs.Sum.{one-yes, one-no}
+use Rattle.list_laws.specs.Test.{of-true}
+use Rattle.list_laws.specs.Least.{least-all, least-more, least-cong}
+use Rattle.tfs_spec.specs.Layout.{mapByte, mapBit, setBit, setBits}
+use Rattle.tfs_spec.specs.View.{View}
+use Rattle.tfs_spec.specs.Check.{times, claimedTwice, badBit}
+use Rattle.tfs_facts.specs.Claims.{times-append}
 use Rattle.tfs_facts.specs.MapBits.{in-map, length-setBit, length-setBits, bit-set, bit-kept}
 use Rattle.tfs_facts.specs.FreshMap.{formatMap, fresh-bit}
 use Rattle.tfs_map.specs.Compare.{bitDiffers}

@@ -1,9 +1,9 @@
 // The claims of all files, in a map of their own.
 ghost use mathlib.Core.Path.{_≡_};
 ghost use Prim.Native.Nat.{_<_};
-ghost use Rattle.tfs_rules.specs.Layout.{setBits};
-ghost use Rattle.tfs_rules.specs.View.{view};
-ghost use Rattle.tfs_rules.specs.Check.{fileClaims, claims};
+ghost use Rattle.tfs_spec.specs.Layout.{setBits};
+ghost use Rattle.tfs_spec.specs.View.{view};
+ghost use Rattle.tfs_spec.specs.Check.{fileClaims, claims};
 ghost use Rattle.tfs_inode.specs.Claims.{doubled};
 ghost use Rattle.tfs_tally.specs.Files.{Sized};
 use crate::files::inode_in;

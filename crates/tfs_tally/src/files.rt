@@ -2,10 +2,10 @@
 ghost use mathlib.Core.Path.{_≡_};
 ghost use Prim.Native.Nat.{_≤_, _<_};
 ghost use lib.ListN.{length};
-ghost use Rattle.lists.specs.Least.{least};
-ghost use Rattle.tfs_rules.specs.Layout.{blocks};
-ghost use Rattle.tfs_rules.specs.View.{view, free, inode};
-ghost use Rattle.tfs_rules.specs.Check.{badInode};
+ghost use Rattle.lists.specs.Lists.{least};
+ghost use Rattle.tfs_spec.specs.Layout.{blocks};
+ghost use Rattle.tfs_spec.specs.View.{view, free, inode};
+ghost use Rattle.tfs_spec.specs.Check.{badInode};
 ghost use Rattle.tfs_tally.specs.Files.{Formed};
 use tfs_dir::slots::slot_inode;
 use tfs_inode::rule::inode_wrong;

@@ -6,14 +6,12 @@ use native.Mathlib.Omega.{arith}
 use lib.ListN.{length, getD, take, drop, length-append}
 use lib.Seq.{length-take-le}
 use borrow.Author.Tests.{lt-ltb, le-ltb}
-use Rattle.lists.specs.Part.{part}
-use Rattle.lists.specs.Table.{table}
-use Rattle.lists.specs.Store.{storeAt}
-use Rattle.tfs_rules.specs.Layout.{need, block, inodeSize}
-use Rattle.tfs_rules.specs.View.{view, inode, size, slotWith, place}
-use Rattle.tfs_rules.specs.Check.{consistent, check}
-use Rattle.tfs_rules.specs.Consistent.{File}
-use Rattle.tfs_rules.specs.Requests.{refused, value, counted, transferView, readBuffer, writeImage}
+use Rattle.lists.specs.Lists.{part, table, storeAt}
+use Rattle.tfs_spec.specs.Layout.{need, block, inodeSize}
+use Rattle.tfs_spec.specs.View.{view, inode, size, slotWith, place}
+use Rattle.tfs_spec.specs.Check.{consistent, check}
+use Rattle.tfs_spec.specs.Consistent.{File}
+use Rattle.tfs_spec.specs.Requests.{refused, value, counted, transferView, readBuffer, writeImage}
 use Rattle.tfs_facts.specs.Names.{handle-hit}
 use Rattle.tfs_dir.specs.Find.{findHandle, slot-with}
 use Rattle.tfs_inode.specs.Claims.{claimList, length-claims}

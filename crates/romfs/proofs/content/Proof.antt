@@ -3,9 +3,9 @@ use mathlib.Core.Path.{_≡_, refl, sym, ap, _∙_}
 use Prim.Native.Nat.{_+_}
 use denote.Ref.{now}
 use borrow.Author.Needs.{needs}
-use Rattle.romfs_rules.specs.Layout.{contentAt}
-use Rattle.romfs_rules.specs.Answers.{partOf, startOf}
-use Rattle.romfs_rules.specs.Given.{content-in}
+use Rattle.romfs_spec.specs.Layout.{contentAt}
+use Rattle.romfs_spec.specs.Answers.{partOf, startOf}
+use Rattle.romfs_proofs.specs.Given.{content-in}
 use Rattle.romfs.specs.declared.ContentAnswer.{ContentAnswer}
 use Rattle.romfs.specs.Told.{toldContent}
 use Rattle.romfs.proofs.Answers as answers

@@ -4,8 +4,8 @@ use Rattle.romfs_check.specs.Told.{told}
 use Rattle.romfs_check.specs.Facts.{fault-fits}
 use Rattle.romfs.specs.Told.{toldContent}
 use Rattle.romfs.proofs.Answers as answers
-use Rattle.romfs_rules.specs.Answers.{measured}
-use Rattle.romfs_rules.specs.Check.{check}
+use Rattle.romfs_spec.specs.Answers.{measured}
+use Rattle.romfs_spec.specs.Check.{check}
 use borrow.Author.Needs.{needs}
 use Rattle.romfs.proofs.content_length.Statement.{statement}
 use Rattle.romfs.proofs.content_length.Tie as tie

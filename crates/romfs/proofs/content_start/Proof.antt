@@ -3,7 +3,7 @@ use borrow.Author.Needs.{needs}
 use native.Mathlib.Omega.{arith}
 use mathlib.Core.Path.{_≡_}
 use denote.Ref.{now}
-use Rattle.romfs_rules.specs.Layout.{contentAt}
+use Rattle.romfs_spec.specs.Layout.{contentAt}
 use Rattle.romfs_check.specs.Known.{Walked}
 use Rattle.romfs_check.specs.Facts.{reach-room}
 use Rattle.romfs.proofs.Answers as answers

@@ -4,9 +4,9 @@ use native.Mathlib.Omega.{arith}
 use mathlib.Core.Path.{_≡_, sym, subst, _∙_}
 use mathlib.Core.Bool.{true}
 use denote.Ref.{now}
-use Rattle.romfs_rules.specs.Reached.{IsReached}
-use Rattle.romfs_rules.specs.Answers.{isDirectory}
-use Rattle.romfs_rules.specs.Given.{first-reached}
+use Rattle.romfs_spec.specs.Reached.{IsReached}
+use Rattle.romfs_spec.specs.Answers.{isDirectory}
+use Rattle.romfs_proofs.specs.Given.{first-reached}
 use Rattle.romfs_check.specs.Known.{Walked}
 use Rattle.romfs.proofs.Answers as answers
 use Rattle.romfs.proofs.find_in.Statement.{statement}

@@ -1,7 +1,7 @@
 use mathlib.Core.Path.{sym, _∙_}
 use Rattle.romfs_check.specs.Facts.{full-at-least}
 use Rattle.romfs.proofs.Answers as answers
-use Rattle.romfs_rules.specs.Given.{first-info, dir-is}
+use Rattle.romfs_proofs.specs.Given.{first-info, dir-is}
 use Rattle.romfs.proofs.first_of.Statement.{statement}
 use Rattle.romfs.proofs.first_of.Tie as tie
 

@@ -1,6 +1,6 @@
 use borrow.Author.Tests.{not-true, not-false}
 use mathlib.Core.Path.{sym, _∙_}
-use Rattle.romfs_rules.specs.Seek.{is-reached}
+use Rattle.romfs_proofs.specs.Seek.{is-reached}
 use Rattle.romfs.proofs.Answers as answers
 use borrow.Author.Needs.{needs}
 use Rattle.romfs.proofs.is_directory.Statement.{statement}

@@ -3,8 +3,8 @@ use borrow.Author.Needs.{needs}
 use mathlib.Core.Path.{_≡_, refl, sym, _∙_}
 use mathlib.Core.Bool.{true}
 use denote.Ref.{now}
-use Rattle.romfs_rules.specs.Check.{isReached}
-use Rattle.romfs_rules.specs.Seek.{is-reached}
+use Rattle.romfs_spec.specs.Check.{isReached}
+use Rattle.romfs_proofs.specs.Seek.{is-reached}
 use Rattle.romfs_check.specs.Known.{Walked}
 use Rattle.romfs.proofs.Answers as answers
 use Rattle.romfs.proofs.length_at.Statement.{statement}

@@ -1,9 +1,9 @@
 -- `of_content` meets its contract: each case of the answer told as numbers.
 use mathlib.Core.Path.{sym, ap, _∙_}
 use denote.Ref.{now}
-use Rattle.romfs_rules.specs.Layout.{contentAt}
-use Rattle.romfs_rules.specs.Answers.{startOf}
-use Rattle.romfs_rules.specs.Given.{content-in}
+use Rattle.romfs_spec.specs.Layout.{contentAt}
+use Rattle.romfs_spec.specs.Answers.{startOf}
+use Rattle.romfs_proofs.specs.Given.{content-in}
 use Rattle.romfs.specs.Told.{toldContent}
 use Rattle.romfs_c.specs.Result.{refusalOf, placeOf, valueOf, part-by, part-none}
 use borrow.Author.Needs.{needs}

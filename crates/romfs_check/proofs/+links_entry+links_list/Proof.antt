@@ -5,8 +5,8 @@ use mathlib.Core.Path.{sym, ap, _∙_}
 use native.Mathlib.Omega.{arith}
 use borrow.Fn.Kinds.{In}
 use borrow.Fn.PlainCycle.{Measures, is, falls, and}
-use Rattle.romfs_rules.specs.Reached.{Reached}
-use Rattle.romfs_rules.specs.Links.{linkFault}
+use Rattle.romfs_spec.specs.Reached.{Reached}
+use Rattle.romfs_proofs.specs.Links.{linkFault}
 use Rattle.romfs_check.specs.Told.{told}
 use Rattle.romfs_check.proofs.Laws as laws
 use Rattle.romfs_check.proofs.links_entry.Reads as links-entry

@@ -6,8 +6,8 @@ use denote.Ref.{now}
 use native.Mathlib.Omega.{arith}
 use borrow.Fn.Kinds.{In}
 use borrow.Fn.PlainCycle.{Measures, is, falls, and}
-use Rattle.romfs_rules.specs.Rules.{fault}
-use Rattle.romfs_rules.specs.Reached.{Reached}
+use Rattle.romfs_spec.specs.Rules.{fault}
+use Rattle.romfs_spec.specs.Reached.{Reached}
 use Rattle.romfs_check.specs.Told.{told}
 use Rattle.romfs_check.specs.Marks.{Marked, marked-at}
 use Rattle.romfs_check.proofs.Laws as laws

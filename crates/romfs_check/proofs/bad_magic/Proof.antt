@@ -1,5 +1,5 @@
 use borrow.Author.Tests.{eq-eqb, ne-eqb}
-use Rattle.romfs_rules.specs.Rules.{magic22}
+use Rattle.romfs_spec.specs.Rules.{magic22}
 use borrow.Author.Needs.{needs}
 use Rattle.romfs_check.proofs.bad_magic.Statement.{statement}
 use Rattle.romfs_check.proofs.bad_magic.Tie as tie

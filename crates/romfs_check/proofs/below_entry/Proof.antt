@@ -1,6 +1,6 @@
 use borrow.Author.Tests.{not-true, not-false}
 use mathlib.Core.Path.{sym, _∙_}
-use Rattle.romfs_rules.specs.Facts.{has-list, no-list, empty-list, own-test}
+use Rattle.romfs_proofs.specs.Facts.{has-list, no-list, empty-list, own-test}
 use borrow.Author.Needs.{needs}
 use Rattle.romfs_check.proofs.below_entry.Statement.{statement}
 use Rattle.romfs_check.proofs.below_entry.Tie as tie

@@ -1,10 +1,10 @@
 use Rattle.romfs_check.specs.Facts.{fault-fits}
 use mathlib.Core.Path.{sym, ap, _∙_}
 use denote.Ref.{now}
-use Rattle.romfs_rules.specs.Check.{andThen, volume, walk, links}
+use Rattle.romfs_spec.specs.Check.{andThen, volume, walk, links}
 use Rattle.romfs_check.specs.Told.{told, toldFault}
 use Rattle.romfs_check.proofs.Laws as laws
-use Rattle.romfs_rules.specs.Walked.{volume-of}
+use Rattle.romfs_proofs.specs.Walked.{volume-of}
 use borrow.Author.Needs.{needs}
 use Rattle.romfs_check.proofs.check.Statement.{statement}
 use Rattle.romfs_check.proofs.check.Tie as tie

@@ -1,7 +1,7 @@
 use Rattle.romfs_check.specs.Facts.{length-of, whole-volume, fault-fits}
 use mathlib.Core.Path.{sym, ap, _∙_}
 use denote.Ref.{now}
-use Rattle.romfs_rules.specs.Check.{walk, links}
+use Rattle.romfs_spec.specs.Check.{walk, links}
 use Rattle.romfs_check.specs.Told.{told}
 use Rattle.romfs_check.specs.Marks.{marked-none}
 use Rattle.romfs_check.proofs.Laws as laws

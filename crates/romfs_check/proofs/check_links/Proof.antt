@@ -1,7 +1,7 @@
 use Rattle.romfs_check.specs.Facts.{full-at-least}
 use mathlib.Core.Path.{_∙_}
 use borrow.Author.Needs.{needs}
-use Rattle.romfs_rules.specs.Links.{linkFault, links-visit}
+use Rattle.romfs_proofs.specs.Links.{linkFault, links-visit}
 use Rattle.romfs_check.proofs.Laws as laws
 use Rattle.romfs_check.proofs.check_links.Statement.{statement}
 use Rattle.romfs_check.proofs.check_links.Tie as tie

@@ -5,7 +5,7 @@ use Prim.Native.Nat.{_≤_}
 use native.Mathlib.Omega.{arith}
 use lib.Dec.{eqb}
 use denote.Ref.{now}
-use Rattle.romfs_rules.specs.Rules.{magic22, size23, sum24}
+use Rattle.romfs_spec.specs.Rules.{magic22, size23, sum24}
 use Rattle.romfs_headers.specs.Known.{Whole}
 use Rattle.romfs_check.proofs.Laws as laws
 use Rattle.romfs_check.proofs.check_volume.Statement.{statement}

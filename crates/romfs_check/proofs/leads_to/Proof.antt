@@ -1,5 +1,5 @@
 use borrow.Author.Tests.{eq-eqb, ne-eqb}
-use Rattle.romfs_rules.specs.Check.{leads}
+use Rattle.romfs_spec.specs.Check.{leads}
 use Rattle.romfs_check.proofs.leads_to.Statement.{statement}
 use Rattle.romfs_check.proofs.leads_to.Tie as tie
 

@@ -2,7 +2,7 @@ use Prim.Native.Nat.{_-_, _≤_}
 use borrow.Author.Needs.{needs}
 use borrow.Author.Count.{below-none, below-more}
 use mathlib.Core.Path.{_∙_}
-use Rattle.lists.specs.Least.{Below}
+use Rattle.list_laws.specs.Least.{Below}
 use Rattle.romfs_check.specs.Marks.{marksTo, mark-test, mark-found, mark-none}
 use Rattle.romfs_check.proofs.Laws as laws
 use Rattle.romfs_check.proofs.mark_to.Statement.{statement}

@@ -3,9 +3,9 @@ use borrow.Author.Needs.{needs}
 use mathlib.Core.Path.{_≡_, sym, _∙_}
 use mathlib.Core.Bool.{true, false}
 use denote.Ref.{now}
-use Rattle.romfs_rules.specs.Layout.{next, descends}
-use Rattle.romfs_rules.specs.Check.{leads}
-use Rattle.romfs_rules.specs.Seek.{towards-next, towards-first, towards-leaf, towards-past}
+use Rattle.romfs_spec.specs.Layout.{next, descends}
+use Rattle.romfs_spec.specs.Check.{leads}
+use Rattle.romfs_proofs.specs.Seek.{towards-next, towards-first, towards-leaf, towards-past}
 use Rattle.romfs_check.proofs.Laws as laws
 use Rattle.romfs_check.proofs.step_towards.Statement.{statement}
 use Rattle.romfs_check.proofs.step_towards.Tie as tie

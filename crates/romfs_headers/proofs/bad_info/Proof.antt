@@ -1,4 +1,4 @@
-use Rattle.romfs_rules.specs.Rules.{badInfo}
+use Rattle.romfs_spec.specs.Rules.{badInfo}
 use borrow.Author.Needs.{needs}
 use Rattle.romfs_headers.proofs.bad_info.Statement.{statement}
 use Rattle.romfs_headers.proofs.bad_info.Tie as tie

@@ -1,4 +1,4 @@
-use Rattle.romfs_rules.specs.Rules.{badSize}
+use Rattle.romfs_spec.specs.Rules.{badSize}
 use borrow.Author.Needs.{needs}
 use Rattle.romfs_headers.proofs.bad_size.Statement.{statement}
 use Rattle.romfs_headers.proofs.bad_size.Tie as tie

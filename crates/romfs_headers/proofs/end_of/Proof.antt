@@ -1,5 +1,5 @@
 use native.Mathlib.Omega.{arith}
-use Rattle.romfs_rules.specs.Layout.{endOf, contentAt, afterName}
+use Rattle.romfs_spec.specs.Layout.{endOf, contentAt, afterName}
 use borrow.Author.Needs.{needs}
 use Rattle.romfs_headers.proofs.end_of.Statement.{statement}
 use Rattle.romfs_headers.proofs.end_of.Tie as tie

@@ -1,5 +1,5 @@
 use native.Mathlib.Omega.{arith}
-use Rattle.romfs_rules.specs.Layout.{firstRoot, afterName}
+use Rattle.romfs_spec.specs.Layout.{firstRoot, afterName}
 use borrow.Author.Needs.{needs}
 use Rattle.romfs_headers.proofs.first_root.Statement.{statement}
 use Rattle.romfs_headers.proofs.first_root.Tie as tie

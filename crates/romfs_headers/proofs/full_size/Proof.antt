@@ -1,4 +1,4 @@
-use Rattle.romfs_rules.specs.Layout.{fullSize}
+use Rattle.romfs_spec.specs.Layout.{fullSize}
 use borrow.Author.Needs.{needs}
 use Rattle.romfs_headers.proofs.full_size.Statement.{statement}
 use Rattle.romfs_headers.proofs.full_size.Tie as tie

@@ -1,5 +1,5 @@
 use borrow.Author.Tests.{eq-eqb, ne-eqb}
-use Rattle.romfs_rules.specs.Layout.{descends}
+use Rattle.romfs_spec.specs.Layout.{descends}
 use borrow.Author.Needs.{needs}
 use Rattle.romfs_headers.proofs.goes_down.Statement.{statement}
 use Rattle.romfs_headers.proofs.goes_down.Tie as tie

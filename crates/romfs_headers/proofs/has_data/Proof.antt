@@ -1,5 +1,5 @@
 use borrow.Author.Tests.{eq-eqb, ne-eqb}
-use Rattle.romfs_rules.specs.Layout.{hasData}
+use Rattle.romfs_spec.specs.Layout.{hasData}
 use Rattle.romfs_headers.proofs.has_data.Statement.{statement}
 use Rattle.romfs_headers.proofs.has_data.Tie as tie
 

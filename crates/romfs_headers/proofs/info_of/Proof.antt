@@ -1,4 +1,4 @@
-use Rattle.romfs_rules.specs.Layout.{info}
+use Rattle.romfs_spec.specs.Layout.{info}
 use borrow.Author.Needs.{needs}
 use Rattle.romfs_headers.proofs.info_of.Statement.{statement}
 use Rattle.romfs_headers.proofs.info_of.Tie as tie

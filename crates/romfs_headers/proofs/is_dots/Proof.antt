@@ -1,4 +1,4 @@
-use Rattle.romfs_rules.specs.Layout.{isDots, name}
+use Rattle.romfs_spec.specs.Layout.{isDots, name}
 use borrow.Author.Needs.{needs}
 use Rattle.romfs_headers.proofs.is_dots.Statement.{statement}
 use Rattle.romfs_headers.proofs.is_dots.Tie as tie

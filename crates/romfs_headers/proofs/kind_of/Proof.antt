@@ -1,7 +1,7 @@
 use mathlib.Core.Path.{ap}
 use Prim.Native.Nat.{ℕ, _%_}
 use native.Mathlib.Omega.{arith}
-use Rattle.romfs_rules.specs.Layout.{kind}
+use Rattle.romfs_spec.specs.Layout.{kind}
 use borrow.Author.Needs.{needs}
 use Rattle.romfs_headers.proofs.kind_of.Statement.{statement}
 use Rattle.romfs_headers.proofs.kind_of.Tie as tie

@@ -1,8 +1,8 @@
 use borrow.Author.Needs.{needs}
 use borrow.Author.Count.{below-none, below-more}
 use Prim.Native.Nat.{_+_, _≤_, _-_}
-use Rattle.lists.specs.Least.{Below}
-use Rattle.lists.specs.Name.{zeroAt}
+use Rattle.list_laws.specs.Least.{Below}
+use Rattle.lists.specs.Lists.{zeroAt}
 use Rattle.romfs_headers.proofs.Laws as laws
 use Rattle.romfs_headers.proofs.name_length.Statement.{statement}
 use Rattle.romfs_headers.proofs.name_length.Tie as tie

@@ -1,7 +1,7 @@
 use mathlib.Core.Path.{ap}
 use Prim.Native.Nat.{ℕ, _*_, _/_}
 use native.Mathlib.Omega.{arith}
-use Rattle.romfs_rules.specs.Layout.{next}
+use Rattle.romfs_spec.specs.Layout.{next}
 use borrow.Author.Needs.{needs}
 use Rattle.romfs_headers.proofs.next_of.Statement.{statement}
 use Rattle.romfs_headers.proofs.next_of.Tie as tie

@@ -4,9 +4,9 @@ use mathlib.Core.Path.{_≡_, sym, _∙_}
 use mathlib.Core.Bool.{true, false}
 use native.Mathlib.Omega.{arith}
 use denote.Ref.{now}
-use Rattle.romfs_rules.specs.Layout.{own, hasList}
-use Rattle.romfs_rules.specs.Rules.{badHeader, badNext, badFirst}
-use Rattle.romfs_rules.specs.Facts.{has-list, no-list, empty-list, own-test}
+use Rattle.romfs_spec.specs.Layout.{own, hasList}
+use Rattle.romfs_spec.specs.Rules.{badHeader, badNext, badFirst}
+use Rattle.romfs_proofs.specs.Facts.{has-list, no-list, empty-list, own-test}
 use Rattle.romfs_headers.specs.Known.{step-is}
 use Rattle.romfs_headers.specs.declared.Step.the-variants as step
 use Rattle.romfs_headers.proofs.Laws as laws

@@ -1,4 +1,4 @@
-use Rattle.romfs_rules.specs.Layout.{size}
+use Rattle.romfs_spec.specs.Layout.{size}
 use borrow.Author.Needs.{needs}
 use Rattle.romfs_headers.proofs.size_of.Statement.{statement}
 use Rattle.romfs_headers.proofs.size_of.Tie as tie

@@ -2,7 +2,7 @@ use borrow.Author.Needs.{needs}
 use mathlib.Core.Path.{_≡_, ap, _∙_}
 use Prim.Native.Nat.{_≤_, _-_}
 use native.Mathlib.Omega.{arith}
-use Rattle.romfs_rules.specs.Layout.{wordSum}
+use Rattle.romfs_spec.specs.Layout.{wordSum}
 use Rattle.romfs_headers.proofs.Laws as laws
 use Rattle.romfs_headers.proofs.sum_words.Statement.{statement}
 use Rattle.romfs_headers.proofs.sum_words.Tie as tie

@@ -1,7 +1,7 @@
 -- `tfs_check` meets its contract: each case of the answer told as numbers.
 use borrow.Author.Needs.{needs}
 use mathlib.Core.Path.{ap, _∙_}
-use Rattle.tfs_rules.specs.Requests.{checked, done, checkAnswer}
+use Rattle.tfs_spec.specs.Requests.{checked, done, checkAnswer}
 use Rattle.tfs_c.specs.Result.{result-is, checked-is}
 use Rattle.tfs_c.proofs.tfs_check.Statement.{statement}
 use Rattle.tfs_c.proofs.tfs_check.Tie as tie

@@ -2,8 +2,8 @@
 use mathlib.Core.Path.{_≡_, sym, ap, _∙_}
 use denote.Ref.{now}
 use borrow.Author.Needs.{needs}
-use Rattle.tfs_rules.specs.Check.{check, consistent}
-use Rattle.tfs_rules.specs.Requests.{Outcome, create}
+use Rattle.tfs_spec.specs.Check.{check, consistent}
+use Rattle.tfs_spec.specs.Requests.{Outcome, create}
 use Rattle.tfs_check.specs.Told.{checkedTold}
 use Rattle.tfs_answers.specs.Passed.{fault-outcome, passed-outcome, fault-fits}
 use Rattle.tfs_change.proofs.create.Statement.{statement}

@@ -7,9 +7,9 @@ use lib.ListN.{drop, replicate}
 use denote.Ref.{now}
 use borrow.Author.Needs.{needs}
 use borrow.Author.Tests.{not-true, not-false}
-use Rattle.lists.specs.Part.{part}
-use Rattle.tfs_rules.specs.Layout.{need, nameAllowed}
-use Rattle.tfs_rules.specs.View.{view}
+use Rattle.lists.specs.Lists.{part}
+use Rattle.tfs_spec.specs.Layout.{need, nameAllowed}
+use Rattle.tfs_spec.specs.View.{view}
 use Rattle.tfs_facts.specs.Chosen.{CreateGrant}
 use Rattle.tfs_answers.specs.Ready.{long}
 use Rattle.tfs_change.specs.Create.{Fresh, Chosen, create-unallowed, create-large, create-twice, create-fresh, create-full, create-crowded, create-grant, name-short, want-few, want-free, create-chosen, create-done}

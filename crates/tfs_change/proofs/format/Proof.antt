@@ -5,8 +5,8 @@ use native.Mathlib.Omega.{arith}
 use denote.Ref.{now}
 use borrow.Author.Needs.{needs}
 use borrow.Author.Tests.{not-true, not-false}
-use Rattle.tfs_rules.specs.Layout.{labelAllowed}
-use Rattle.tfs_rules.specs.Requests.{Outcome}
+use Rattle.tfs_spec.specs.Layout.{labelAllowed}
+use Rattle.tfs_spec.specs.Requests.{Outcome}
 use Rattle.tfs_change.specs.Format.{label-short, format-small, format-unallowed, format-granted}
 use Rattle.tfs_change.proofs.format.Statement.{statement}
 use Rattle.tfs_change.proofs.format.Tie as tie

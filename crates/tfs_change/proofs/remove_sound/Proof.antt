@@ -7,8 +7,8 @@ use lib.ListN.{drop, replicate}
 use denote.Ref.{now}
 use borrow.Author.Needs.{needs}
 use borrow.Author.Tests.{not-true, not-false}
-use Rattle.lists.specs.Part.{part}
-use Rattle.tfs_rules.specs.Layout.{need, block, inodeSize, nameAllowed}
+use Rattle.lists.specs.Lists.{part}
+use Rattle.tfs_spec.specs.Layout.{need, block, inodeSize, nameAllowed}
 use Rattle.tfs_answers.specs.Ready.{long}
 use Rattle.tfs_change.specs.Remove.{Hit, Listed, listed, remove-unallowed, remove-missing, remove-inode, remove-under, remove-done}
 use Rattle.tfs_change.proofs.remove_sound.Statement.{statement}

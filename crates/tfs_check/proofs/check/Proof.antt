@@ -4,10 +4,11 @@ use mathlib.Core.Bool.{false}
 use native.Mathlib.Omega.{arith}
 use denote.Ref.{now}
 use borrow.Author.Tests.{lt-ltb, le-ltb}
-use Rattle.lists.specs.Least.{least, least-le}
-use Rattle.tfs_rules.specs.Layout.{blocks}
-use Rattle.tfs_rules.specs.View.{view}
-use Rattle.tfs_rules.specs.Check.{badSlot, badInode, check}
+use Rattle.lists.specs.Lists.{least}
+use Rattle.list_laws.specs.Least.{least-le}
+use Rattle.tfs_spec.specs.Layout.{blocks}
+use Rattle.tfs_spec.specs.View.{view}
+use Rattle.tfs_spec.specs.Check.{badSlot, badInode, check}
 use Rattle.tfs_tally.specs.Files.{Formed}
 use Rattle.tfs_check.specs.Order.{blocksVerdict, inOrder, check-is, slots-at}
 use borrow.Author.Needs.{needs}

@@ -2,9 +2,9 @@
 use mathlib.Core.Path.{_≡_, _∙_}
 use denote.Ref.{now}
 use borrow.Author.Tests.{lt-ltb, le-ltb}
-use Rattle.lists.specs.Least.{least}
-use Rattle.tfs_rules.specs.View.{view}
-use Rattle.tfs_rules.specs.Check.{claims, claimedTwice, badBit}
+use Rattle.lists.specs.Lists.{least}
+use Rattle.tfs_spec.specs.View.{view}
+use Rattle.tfs_spec.specs.Check.{claims, claimedTwice, badBit}
 use Rattle.tfs_check.specs.Order.{blocksVerdict, twice-at, bits-at}
 use native.Mathlib.Omega.{arith}
 use borrow.Author.Needs.{needs}

@@ -2,8 +2,8 @@
 use mathlib.Core.Path.{_≡_, sym, ap, _∙_}
 use denote.Ref.{now}
 use borrow.Author.Needs.{needs}
-use Rattle.tfs_rules.specs.Check.{check, consistent}
-use Rattle.tfs_rules.specs.Requests.{freeAnswer}
+use Rattle.tfs_spec.specs.Check.{check, consistent}
+use Rattle.tfs_spec.specs.Requests.{freeAnswer}
 use Rattle.tfs_check.specs.Told.{checkedTold}
 use Rattle.tfs_answers.specs.Told.{listedName}
 use Rattle.tfs_answers.specs.Passed.{fault-answer, passed-answer, fault-fits}

@@ -1,7 +1,7 @@
 -- `free_sound` meets its contract.
 use native.Mathlib.Omega.{arith}
 use borrow.Author.Needs.{needs}
-use Rattle.lists.specs.Part.{part}
+use Rattle.lists.specs.Lists.{part}
 use Rattle.tfs_answers.specs.Ready.{long}
 use Rattle.tfs_look.specs.Look.{free-are}
 use Rattle.tfs_look.proofs.free_sound.Statement.{statement}

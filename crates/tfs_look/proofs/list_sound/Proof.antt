@@ -5,8 +5,8 @@ use Prim.Native.Nat.{ℕ}
 use mathlib.Core.List.{List}
 use lib.ListN.{take}
 use borrow.Author.Needs.{needs}
-use Rattle.lists.specs.Part.{part}
-use Rattle.tfs_rules.specs.Requests.{Answer, file}
+use Rattle.lists.specs.Lists.{part}
+use Rattle.tfs_spec.specs.Requests.{Answer, file}
 use Rattle.tfs_answers.specs.Told.{listedName}
 use Rattle.tfs_answers.specs.Ready.{long}
 use Rattle.tfs_look.specs.Look.{list-past, list-free, list-inside, list-file, name-back}

@@ -4,7 +4,7 @@ use native.Mathlib.Omega.{arith}
 use mathlib.Core.Path.{sym, _∙_}
 use borrow.Author.Needs.{needs}
 use borrow.Author.Tests.{not-true, not-false}
-use Rattle.lists.specs.Part.{part}
+use Rattle.lists.specs.Lists.{part}
 use Rattle.tfs_answers.specs.Ready.{long}
 use Rattle.tfs_look.specs.Look.{open-unallowed, open-missing, open-found}
 use Rattle.tfs_look.proofs.open_sound.Statement.{statement}

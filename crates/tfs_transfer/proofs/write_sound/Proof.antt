@@ -4,7 +4,7 @@ use Prim.Native.Nat.{_-_}
 use native.Mathlib.Omega.{arith}
 use lib.ListN.{length, take, drop, replicate}
 use denote.Ref.{now}
-use Rattle.tfs_rules.specs.Layout.{block}
+use Rattle.tfs_spec.specs.Layout.{block}
 use Rattle.tfs_answers.specs.Ready.{contentList, long}
 use Rattle.tfs_transfer.specs.Transfer.{absent, Held, held, held-in, held-small, held-few, blocks-inside, blocks-few, beyond, listed, listed-fits, Moves, moves, allowed, blocks-reach, write-all}
 use borrow.Author.Needs.{needs}

@@ -1,6 +1,6 @@
 -- `bit_of` meets its contract.
 use native.Mathlib.Omega.{arith}
-use Rattle.lists.specs.Bits.{bit-shift}
+use Rattle.list_laws.specs.Bits.{bit-shift}
 use borrow.Author.Needs.{needs}
 use Rattle.spans.proofs.bits.bit_of.Statement.{statement}
 use Rattle.spans.proofs.bits.bit_of.Tie as tie

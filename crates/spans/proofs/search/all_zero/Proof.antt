@@ -3,7 +3,7 @@ use mathlib.Core.Path.{_≡_, refl, sym, _∙_}
 use Prim.Native.Nat.{_≤_, _-_}
 use lib.ListN.{length, drop}
 use denote.Ref.{now}
-use Rattle.lists.specs.Test.{allZero}
+use Rattle.lists.specs.Lists.{allZero}
 use Rattle.spans.specs.Zeros.{zeros-end, zeros-more, zeros-not}
 use borrow.Author.Needs.{needs}
 use Rattle.spans.proofs.search.all_zero.Statement.{statement}

@@ -3,8 +3,8 @@ use Prim.Native.Nat.{_≤_, _-_}
 use lib.ListN.{length}
 use borrow.Author.Count.{below-none, below-more}
 use borrow.Author.Tests.{eq-eqb, ne-eqb}
-use Rattle.lists.specs.Least.{Below, found, none-found}
-use Rattle.lists.specs.Name.{zeroAt, firstZero}
+use Rattle.list_laws.specs.Least.{Below, found, none-found}
+use Rattle.lists.specs.Lists.{zeroAt, firstZero}
 use borrow.Author.Needs.{needs}
 use Rattle.spans.proofs.search.first_zero.Statement.{statement}
 use Rattle.spans.proofs.search.first_zero.Tie as tie

@@ -3,7 +3,7 @@ use mathlib.Core.Path.{_≡_, refl, sym, _∙_}
 use Prim.Native.Nat.{_≤_, _-_}
 use lib.ListN.{length, drop}
 use denote.Ref.{now}
-use Rattle.lists.specs.Test.{sameList}
+use Rattle.lists.specs.Lists.{sameList}
 use Rattle.spans.specs.Same.{same-length, same-end, same-more, same-not}
 use borrow.Author.Needs.{needs}
 use Rattle.spans.proofs.search.same.Statement.{statement}

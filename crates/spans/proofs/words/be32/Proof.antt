@@ -1,5 +1,5 @@
 -- `be32` meets its contract.
-use Rattle.lists.specs.Word.{word}
+use Rattle.lists.specs.Lists.{word}
 use borrow.Author.Needs.{needs}
 use Rattle.spans.proofs.words.be32.Statement.{statement}
 use Rattle.spans.proofs.words.be32.Tie as tie

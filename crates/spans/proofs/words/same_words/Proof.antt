@@ -3,7 +3,7 @@ use mathlib.Core.Path.{sym, ap, _∙_}
 use mathlib.Core.Bool.{not}
 use Prim.Native.Nat.{_≤_, _-_}
 use borrow.Author.Count.{below-none, below-more}
-use Rattle.lists.specs.Least.{Below, found, none-found}
+use Rattle.list_laws.specs.Least.{Below, found, none-found}
 use Rattle.spans.specs.Alike.{wordDiffers}
 use borrow.Author.Needs.{needs}
 use Rattle.spans.proofs.words.same_words.Statement.{statement}

@@ -1,6 +1,6 @@
 -- `blocks` meets its contract.
 use native.Mathlib.Omega.{arith}
-use Rattle.tfs_rules.specs.Layout.{blocks}
+use Rattle.tfs_spec.specs.Layout.{blocks}
 use Rattle.tfs_check.proofs.volume.blocks.Statement.{statement}
 use Rattle.tfs_check.proofs.volume.blocks.Tie as tie
 

@@ -1,8 +1,8 @@
 -- `find_free` meets its contract: no slot before it is free.
 use Prim.Native.Nat.{_≤_, _-_}
 use borrow.Author.Count.{below-none, below-more}
-use Rattle.lists.specs.Least.{Below, found, none-found}
-use Rattle.tfs_rules.specs.Layout.{slot, slotFree}
+use Rattle.list_laws.specs.Least.{Below, found, none-found}
+use Rattle.tfs_spec.specs.Layout.{slot, slotFree}
 use Rattle.tfs_dir.specs.Find.{findFree}
 use borrow.Author.Needs.{needs}
 use Rattle.tfs_dir.proofs.find.find_free.Statement.{statement}

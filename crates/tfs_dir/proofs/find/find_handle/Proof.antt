@@ -1,7 +1,7 @@
 -- `find_handle` meets its contract: no slot before s passes the test.
 use Prim.Native.Nat.{_≤_, _-_}
 use borrow.Author.Count.{below-none, below-more}
-use Rattle.lists.specs.Least.{Below, found, none-found}
+use Rattle.list_laws.specs.Least.{Below, found, none-found}
 use Rattle.tfs_dir.specs.Find.{slotHandles, findHandle}
 use borrow.Author.Needs.{needs}
 use Rattle.tfs_dir.proofs.find.find_handle.Statement.{statement}

@@ -1,5 +1,5 @@
 -- `find_name` meets its contract.
-use Rattle.lists.specs.Least.{least-le}
+use Rattle.list_laws.specs.Least.{least-le}
 use Rattle.tfs_dir.specs.Find.{slotHolds, findName}
 use borrow.Author.Needs.{needs}
 use Rattle.tfs_dir.proofs.find.find_name.Statement.{statement}

@@ -4,7 +4,7 @@ use mathlib.Core.List.{List}
 use Prim.Native.Nat.{ℕ}
 use lib.Dec.{ltb}
 use denote.Ref.{now}
-use Rattle.lists.specs.Least.{least}
+use Rattle.lists.specs.Lists.{least}
 use Rattle.tfs_dir.specs.Slots.{name-cut}
 use Rattle.tfs_dir.specs.Find.{slotHolds, slotRepeats}
 use borrow.Author.Needs.{needs}

@@ -1,6 +1,6 @@
 -- `label_allowed` meets its contract.
 use borrow.Author.Tests.{lt-ltb, le-ltb}
-use Rattle.tfs_rules.specs.Layout.{labelAllowed}
+use Rattle.tfs_spec.specs.Layout.{labelAllowed}
 use borrow.Author.Needs.{needs}
 use Rattle.tfs_dir.proofs.names.label_allowed.Statement.{statement}
 use Rattle.tfs_dir.proofs.names.label_allowed.Tie as tie

@@ -1,6 +1,6 @@
 -- `name_allowed` meets its contract.
 use borrow.Author.Tests.{le-leb, lt-leb}
-use Rattle.tfs_rules.specs.Layout.{nameAllowed}
+use Rattle.tfs_spec.specs.Layout.{nameAllowed}
 use borrow.Author.Needs.{needs}
 use Rattle.tfs_dir.proofs.names.name_allowed.Statement.{statement}
 use Rattle.tfs_dir.proofs.names.name_allowed.Tie as tie

@@ -1,6 +1,6 @@
 -- `name_formed` meets its contract.
 use borrow.Author.Tests.{lt-leb, le-leb, lt-ltb, le-ltb}
-use Rattle.tfs_rules.specs.Layout.{nameFormed}
+use Rattle.tfs_spec.specs.Layout.{nameFormed}
 use denote.Ref.{now}
 use Rattle.tfs_dir.specs.Slots.{rest-part}
 use borrow.Author.Needs.{needs}

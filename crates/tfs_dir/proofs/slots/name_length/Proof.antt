@@ -3,7 +3,7 @@ use mathlib.Core.Path.{sym, _∙_}
 use native.Mathlib.Nat.{add-sub-cancel-left}
 use native.Mathlib.Omega.{arith}
 use denote.Ref.{now}
-use Rattle.lists.specs.Part.{part}
+use Rattle.lists.specs.Lists.{part}
 use Rattle.tfs_dir.specs.Slots.{length-name, name-le}
 use borrow.Author.Needs.{needs}
 use Rattle.tfs_dir.proofs.slots.name_length.Statement.{statement}

@@ -1,7 +1,7 @@
 -- `slot_free` meets its contract.
 use native.Mathlib.Nat.{add-sub-cancel-left}
-use Rattle.lists.specs.Part.{part}
-use Rattle.tfs_rules.specs.Layout.{slot, slotFree}
+use Rattle.lists.specs.Lists.{part}
+use Rattle.tfs_spec.specs.Layout.{slot, slotFree}
 use borrow.Author.Needs.{needs}
 use Rattle.tfs_dir.proofs.slots.slot_free.Statement.{statement}
 use Rattle.tfs_dir.proofs.slots.slot_free.Tie as tie

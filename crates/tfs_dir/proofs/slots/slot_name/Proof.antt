@@ -5,8 +5,8 @@ use Prim.Native.Nat.{ℕ, _-_}
 use native.Mathlib.Omega.{arith}
 use lib.ListN.{length, drop}
 use denote.Ref.{now}
-use Rattle.lists.specs.Name.{zeros}
-use Rattle.tfs_rules.specs.Layout.{slot, slotName}
+use Rattle.lists.specs.Lists.{zeros}
+use Rattle.tfs_spec.specs.Layout.{slot, slotName}
 use Rattle.tfs_dir.specs.Slots.{name-cut, name-le}
 use Rattle.tfs_dir.specs.Entry.{pad-with}
 use borrow.Author.Needs.{needs}

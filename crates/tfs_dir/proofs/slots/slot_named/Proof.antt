@@ -4,7 +4,7 @@ use mathlib.Core.List.{List}
 use Prim.Native.Nat.{ℕ}
 use denote.Ref.{now}
 use borrow.Author.Tests.{not-true}
-use Rattle.tfs_rules.specs.Layout.{sameName}
+use Rattle.tfs_spec.specs.Layout.{sameName}
 use Rattle.tfs_dir.specs.Slots.{name-cut, last-not}
 use borrow.Author.Needs.{needs}
 use Rattle.tfs_dir.proofs.slots.slot_named.Statement.{statement}

@@ -2,8 +2,8 @@
 use native.Mathlib.Nat.{add-sub-cancel-left}
 use denote.Ref.{now}
 use borrow.Author.Tests.{lt-leb, le-leb, lt-ltb, le-ltb}
-use Rattle.lists.specs.Part.{part}
-use Rattle.tfs_rules.specs.Layout.{slotUsed}
+use Rattle.lists.specs.Lists.{part}
+use Rattle.tfs_spec.specs.Layout.{slotUsed}
 use Rattle.tfs_dir.specs.Slots.{field-part}
 use borrow.Author.Needs.{needs}
 use Rattle.tfs_dir.proofs.slots.slot_used.Statement.{statement}

@@ -2,9 +2,8 @@
 use mathlib.Core.Path.{ap, _∙_}
 use native.Mathlib.Nat.{add-sub-cancel-left}
 use denote.Ref.{now}
-use Rattle.lists.specs.Name.{zeros}
-use Rattle.lists.specs.Part.{part, withPart}
-use Rattle.tfs_rules.specs.Layout.{slot, setSlot}
+use Rattle.lists.specs.Lists.{zeros, part, withPart}
+use Rattle.tfs_spec.specs.Layout.{slot, setSlot}
 use Rattle.tfs_dir.specs.Slots.{length-slot}
 use borrow.Author.Needs.{needs}
 use Rattle.tfs_dir.proofs.write.clear_slot.Statement.{statement}

@@ -6,9 +6,7 @@ use native.Mathlib.Nat.{add-sub-cancel-left}
 use native.Mathlib.Omega.{arith}
 use lib.ListN.{length}
 use denote.Ref.{now}
-use Rattle.lists.specs.Name.{zeros}
-use Rattle.lists.specs.Word.{bytes4}
-use Rattle.lists.specs.Part.{withPart}
+use Rattle.lists.specs.Lists.{zeros, bytes4, withPart}
 use Rattle.tfs_dir.specs.Entry.{entry-written}
 use borrow.Author.Needs.{needs}
 use Rattle.tfs_dir.proofs.write.fill_slot.Statement.{statement}

@@ -1,7 +1,7 @@
 -- `put_slot` meets its contract.
 use native.Mathlib.Nat.{add-sub-cancel-left}
-use Rattle.lists.specs.Part.{withPart}
-use Rattle.tfs_rules.specs.Layout.{setSlot}
+use Rattle.lists.specs.Lists.{withPart}
+use Rattle.tfs_spec.specs.Layout.{setSlot}
 use borrow.Author.Needs.{needs}
 use Rattle.tfs_dir.proofs.write.put_slot.Statement.{statement}
 use Rattle.tfs_dir.proofs.write.put_slot.Tie as tie

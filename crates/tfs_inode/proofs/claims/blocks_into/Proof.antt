@@ -5,7 +5,7 @@ use Prim.Native.Nat.{_+_, _-_, _≤_, _<_}
 use native.Mathlib.Omega.{arith}
 use lib.ListN.{length, drop, set, length-set}
 use denote.Ref.{now}
-use Rattle.tfs_rules.specs.Layout.{need, inodeSize}
+use Rattle.tfs_spec.specs.Layout.{need, inodeSize}
 use Rattle.tfs_inode.specs.Claims.{claimed, claimed-none, claimed-more, claimed-all}
 use borrow.Author.Needs.{needs}
 use Rattle.tfs_inode.proofs.claims.blocks_into.Statement.{statement}

@@ -3,7 +3,7 @@ use mathlib.Core.Path.{_≡_, ap, _∙_}
 use Prim.Native.Nat.{_-_, _≤_, _<_}
 use native.Mathlib.Omega.{arith}
 use denote.Ref.{now}
-use Rattle.tfs_rules.specs.Layout.{setBits, need, inodeSize, inodeNumber}
+use Rattle.tfs_spec.specs.Layout.{setBits, need, inodeSize, inodeNumber}
 use Rattle.tfs_inode.specs.Claims.{numbersTo, doubled, claim-own, claim-number, marked-none, twice-none, marked-next, twice-next, marked-all, twice-all}
 use borrow.Author.Needs.{needs}
 use Rattle.tfs_inode.proofs.claims.claim_file.Statement.{statement}

@@ -5,8 +5,8 @@ use native.Mathlib.Omega.{arith}
 use mathlib.Core.List.{List}
 use lib.ListN.{getD}
 use denote.Ref.{now}
-use Rattle.lists.specs.Word.{word}
-use Rattle.tfs_rules.specs.Layout.{inodeNumber}
+use Rattle.lists.specs.Lists.{word}
+use Rattle.tfs_spec.specs.Layout.{inodeNumber}
 use borrow.Author.Needs.{needs}
 use Rattle.tfs_inode.proofs.read.block_number.Statement.{statement}
 use Rattle.tfs_inode.proofs.read.block_number.Tie as tie

@@ -1,5 +1,5 @@
 -- `blocks_needed` meets its contract.
-use Rattle.tfs_rules.specs.Layout.{need}
+use Rattle.tfs_spec.specs.Layout.{need}
 use borrow.Author.Needs.{needs}
 use Rattle.tfs_inode.proofs.read.blocks_needed.Statement.{statement}
 use Rattle.tfs_inode.proofs.read.blocks_needed.Tie as tie

@@ -1,5 +1,5 @@
 -- `inode_number` meets its contract.
-use Rattle.tfs_rules.specs.Layout.{inodeNumber}
+use Rattle.tfs_spec.specs.Layout.{inodeNumber}
 use borrow.Author.Needs.{needs}
 use Rattle.tfs_inode.proofs.read.inode_number.Statement.{statement}
 use Rattle.tfs_inode.proofs.read.inode_number.Tie as tie

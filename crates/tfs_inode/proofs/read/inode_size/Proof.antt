@@ -1,5 +1,5 @@
 -- `inode_size` meets its contract.
-use Rattle.tfs_rules.specs.Layout.{inodeSize}
+use Rattle.tfs_spec.specs.Layout.{inodeSize}
 use borrow.Author.Needs.{needs}
 use Rattle.tfs_inode.proofs.read.inode_size.Statement.{statement}
 use Rattle.tfs_inode.proofs.read.inode_size.Tie as tie

@@ -5,8 +5,8 @@ use Prim.Native.Nat.{ℕ, _-_, _≤_}
 use native.Mathlib.Omega.{arith}
 use denote.Ref.{now}
 use borrow.Author.Count.{below-none, below-more}
-use Rattle.lists.specs.Least.{Below, found, none-found}
-use Rattle.tfs_rules.specs.Layout.{inRange}
+use Rattle.list_laws.specs.Least.{Below, found, none-found}
+use Rattle.tfs_spec.specs.Layout.{inRange}
 use Rattle.tfs_inode.specs.Wrong.{numberWrong, listed-wrong}
 use borrow.Author.Needs.{needs}
 use Rattle.tfs_inode.proofs.rule.first_outside.Statement.{statement}

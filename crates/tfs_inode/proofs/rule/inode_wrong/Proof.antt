@@ -2,7 +2,7 @@
 use native.Mathlib.Omega.{arith}
 use denote.Ref.{now}
 use borrow.Author.Tests.{lt-ltb, le-ltb}
-use Rattle.tfs_rules.specs.Layout.{inodeSize}
+use Rattle.tfs_spec.specs.Layout.{inodeSize}
 use Rattle.tfs_inode.specs.Wrong.{numbersWrong, inodeWrong, need-small}
 use borrow.Author.Needs.{needs}
 use Rattle.tfs_inode.proofs.rule.inode_wrong.Statement.{statement}

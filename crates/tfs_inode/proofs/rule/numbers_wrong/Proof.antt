@@ -7,8 +7,8 @@ use lib.Dec.{eqb}
 use denote.Ref.{now}
 use borrow.Author.Count.{below-more}
 use borrow.Author.Tests.{eq-eqb, ne-eqb}
-use Rattle.lists.specs.Least.{Below, found, none-found}
-use Rattle.tfs_rules.specs.Layout.{need, inodeSize}
+use Rattle.list_laws.specs.Least.{Below, found, none-found}
+use Rattle.tfs_spec.specs.Layout.{need, inodeSize}
 use Rattle.tfs_inode.specs.Wrong.{numberWrong, rest-wrong, wrong-early, listed-right, wrong-found, wrong-none}
 use borrow.Author.Needs.{needs}
 use Rattle.tfs_inode.proofs.rule.numbers_wrong.Statement.{statement}

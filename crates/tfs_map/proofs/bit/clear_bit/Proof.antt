@@ -1,5 +1,5 @@
 -- `clear_bit` meets its contract.
-use Rattle.tfs_rules.specs.Layout.{setBit}
+use Rattle.tfs_spec.specs.Layout.{setBit}
 use borrow.Author.Needs.{needs}
 use Rattle.tfs_map.proofs.bit.clear_bit.Statement.{statement}
 use Rattle.tfs_map.proofs.bit.clear_bit.Tie as tie

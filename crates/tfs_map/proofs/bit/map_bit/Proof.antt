@@ -1,5 +1,5 @@
 -- `map_bit` meets its contract.
-use Rattle.tfs_rules.specs.Layout.{mapBit}
+use Rattle.tfs_spec.specs.Layout.{mapBit}
 use borrow.Author.Needs.{needs}
 use Rattle.tfs_map.proofs.bit.map_bit.Statement.{statement}
 use Rattle.tfs_map.proofs.bit.map_bit.Tie as tie

@@ -1,5 +1,5 @@
 -- `set_bit` meets its contract.
-use Rattle.tfs_rules.specs.Layout.{setBit}
+use Rattle.tfs_spec.specs.Layout.{setBit}
 use borrow.Author.Needs.{needs}
 use Rattle.tfs_map.proofs.bit.set_bit.Statement.{statement}
 use Rattle.tfs_map.proofs.bit.set_bit.Tie as tie

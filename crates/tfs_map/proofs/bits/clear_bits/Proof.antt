@@ -5,7 +5,7 @@ use native.Mathlib.Omega.{arith}
 use lib.ListN.{length, getD, take}
 use lib.Seq.{take-all}
 use denote.Ref.{now}
-use Rattle.tfs_rules.specs.Layout.{setBits}
+use Rattle.tfs_spec.specs.Layout.{setBits}
 use Rattle.tfs_map.specs.Bits.{bits-take}
 use borrow.Author.Needs.{needs}
 use Rattle.tfs_map.proofs.bits.clear_bits.Statement.{statement}

@@ -3,7 +3,7 @@ use Prim.Native.Nat.{_+_, _-_, _/_, _≤_}
 use native.Mathlib.Omega.{arith}
 use denote.Ref.{now}
 use borrow.Author.Count.{below-more}
-use Rattle.lists.specs.Least.{Below, found, none-found, least-le}
+use Rattle.list_laws.specs.Least.{Below, found, none-found, least-le}
 use Rattle.spans.specs.Alike.{wordDiffers}
 use Rattle.tfs_map.specs.Compare.{bitDiffers, words-alike}
 use borrow.Author.Needs.{needs}

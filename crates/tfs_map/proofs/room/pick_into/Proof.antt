@@ -6,7 +6,7 @@ use native.Mathlib.Omega.{arith}
 use lib.ListN.{length, take, drop, length-set}
 use denote.Ref.{now}
 use Rattle.spans.specs.Copy.{copy-more}
-use Rattle.tfs_rules.specs.Requests.{freeFrom}
+use Rattle.tfs_spec.specs.Requests.{freeFrom}
 use Rattle.tfs_map.specs.Free.{turn}
 use borrow.Author.Needs.{needs}
 use Rattle.tfs_map.proofs.room.pick_into.Statement.{statement}

@@ -7,7 +7,7 @@ use lib.Seq.{take-length}
 use denote.Ref.{now}
 use Rattle.tfs_runs.specs.Blank.{zero-turn}
 use borrow.Author.Needs.{needs}
-use Rattle.tfs_rules.specs.Requests.{storeAll, zeroStores}
+use Rattle.tfs_spec.specs.Requests.{storeAll, zeroStores}
 use Rattle.tfs_runs.proofs.blank.zero_blocks.Statement.{statement}
 use Rattle.tfs_runs.proofs.blank.zero_blocks.Tie as tie
 

@@ -5,7 +5,8 @@ use Prim.Native.Nat.{_≤_, _-_}
 use native.Mathlib.Omega.{arith}
 use lib.ListN.{length, getD, drop, length-append, length-drop}
 use denote.Ref.{now}
-use Rattle.lists.specs.Table.{table, length-table}
+use Rattle.lists.specs.Lists.{table}
+use Rattle.list_laws.specs.Table.{length-table}
 use Rattle.tfs_runs.specs.Place.{at}
 use Rattle.tfs_runs.specs.Read.{read-more}
 use borrow.Author.Needs.{needs}

@@ -4,7 +4,7 @@ use Prim.Native.Nat.{_≤_, _-_}
 use native.Mathlib.Omega.{arith}
 use lib.ListN.{length, take, length-take, length-drop}
 use denote.Ref.{now}
-use Rattle.lists.specs.Store.{storeAt}
+use Rattle.lists.specs.Lists.{storeAt}
 use Rattle.tfs_runs.specs.Place.{at}
 use Rattle.tfs_runs.specs.Write.{write-turn}
 use borrow.Author.Needs.{needs}

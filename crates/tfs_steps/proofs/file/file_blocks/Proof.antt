@@ -1,7 +1,7 @@
 -- `file_blocks` meets its contract: the part is the block.
 use native.Mathlib.Nat.{add-sub-cancel-left}
-use Rattle.lists.specs.Part.{part}
-use Rattle.tfs_rules.specs.Layout.{block}
+use Rattle.lists.specs.Lists.{part}
+use Rattle.tfs_spec.specs.Layout.{block}
 use borrow.Author.Needs.{needs}
 use Rattle.tfs_steps.proofs.file.file_blocks.Statement.{statement}
 use Rattle.tfs_steps.proofs.file.file_blocks.Tie as tie

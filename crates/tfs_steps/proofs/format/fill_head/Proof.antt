@@ -3,8 +3,7 @@ use mathlib.Core.Path.{ap, _∙_}
 use native.Mathlib.Nat.{add-sub-cancel-left}
 use native.Mathlib.Omega.{arith}
 use denote.Ref.{now}
-use Rattle.lists.specs.Name.{zeros}
-use Rattle.lists.specs.Part.{withPart}
+use Rattle.lists.specs.Lists.{zeros, withPart}
 use Rattle.tfs_steps.specs.Format.{head-written}
 use borrow.Author.Needs.{needs}
 use Rattle.tfs_steps.proofs.format.fill_head.Statement.{statement}

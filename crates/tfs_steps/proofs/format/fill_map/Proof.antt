@@ -1,6 +1,6 @@
 -- `fill_map` meets its contract.
 use mathlib.Core.Path.{ap, _∙_}
-use Rattle.lists.specs.Name.{zeros}
+use Rattle.lists.specs.Lists.{zeros}
 use Rattle.tfs_steps.specs.Format.{map-written}
 use borrow.Author.Needs.{needs}
 use Rattle.tfs_steps.proofs.format.fill_map.Statement.{statement}

@@ -1,6 +1,6 @@
 -- `format_map` meets its contract: the part is the block.
-use Rattle.lists.specs.Part.{withPart}
-use Rattle.tfs_rules.specs.Layout.{setBlock}
+use Rattle.lists.specs.Lists.{withPart}
+use Rattle.tfs_spec.specs.Layout.{setBlock}
 use borrow.Author.Needs.{needs}
 use Rattle.tfs_steps.proofs.format.format_map.Statement.{statement}
 use Rattle.tfs_steps.proofs.format.format_map.Tie as tie

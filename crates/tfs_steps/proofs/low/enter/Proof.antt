@@ -1,6 +1,6 @@
 -- `enter` meets its contract: the part is the block.
-use Rattle.lists.specs.Part.{part, withPart}
-use Rattle.tfs_rules.specs.Layout.{block, setBlock}
+use Rattle.lists.specs.Lists.{part, withPart}
+use Rattle.tfs_spec.specs.Layout.{block, setBlock}
 use borrow.Author.Needs.{needs}
 use Rattle.tfs_steps.proofs.low.enter.Statement.{statement}
 use Rattle.tfs_steps.proofs.low.enter.Tie as tie

@@ -1,7 +1,7 @@
 -- `store_inode` meets its contract: the part is the block.
 use native.Mathlib.Nat.{add-sub-cancel-left}
-use Rattle.lists.specs.Part.{withPart}
-use Rattle.tfs_rules.specs.Layout.{setBlock}
+use Rattle.lists.specs.Lists.{withPart}
+use Rattle.tfs_spec.specs.Layout.{setBlock}
 use borrow.Author.Needs.{needs}
 use Rattle.tfs_steps.proofs.place.store_inode.Statement.{statement}
 use Rattle.tfs_steps.proofs.place.store_inode.Tie as tie

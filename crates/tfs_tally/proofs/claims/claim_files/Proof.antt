@@ -4,9 +4,9 @@ use mathlib.Core.List.{List}
 use Prim.Native.Nat.{ℕ, _≤_, _-_}
 use native.Mathlib.Omega.{arith}
 use denote.Ref.{now}
-use Rattle.tfs_rules.specs.Layout.{setBits}
-use Rattle.tfs_rules.specs.View.{view}
-use Rattle.tfs_rules.specs.Check.{claimsTo}
+use Rattle.tfs_spec.specs.Layout.{setBits}
+use Rattle.tfs_spec.specs.View.{view}
+use Rattle.tfs_spec.specs.Check.{claimsTo}
 use Rattle.tfs_inode.specs.Claims.{doubled}
 use Rattle.tfs_tally.specs.Claimed.{marked-none, doubled-start, marked-more, doubled-more, claims-end}
 use borrow.Author.Needs.{needs}

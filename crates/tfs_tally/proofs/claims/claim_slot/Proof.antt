@@ -6,8 +6,8 @@ use native.Mathlib.Omega.{arith}
 use native.Mathlib.Nat.{add-sub-cancel-left}
 use lib.ListN.{length-take, length-drop}
 use denote.Ref.{now}
-use Rattle.tfs_rules.specs.Layout.{setBits}
-use Rattle.tfs_rules.specs.View.{view}
+use Rattle.tfs_spec.specs.Layout.{setBits}
+use Rattle.tfs_spec.specs.View.{view}
 use Rattle.tfs_inode.specs.Claims.{doubled}
 use Rattle.tfs_tally.specs.Claimed.{Held, held, none-marked, none-doubled}
 use borrow.Author.Needs.{needs}

@@ -1,9 +1,9 @@
 -- `first_bad_inode` meets its contract: no slot before s breaks the rule.
 use Prim.Native.Nat.{_≤_, _-_}
 use borrow.Author.Count.{below-none, below-more}
-use Rattle.lists.specs.Least.{Below, found, none-found}
-use Rattle.tfs_rules.specs.View.{view}
-use Rattle.tfs_rules.specs.Check.{badInode}
+use Rattle.list_laws.specs.Least.{Below, found, none-found}
+use Rattle.tfs_spec.specs.View.{view}
+use Rattle.tfs_spec.specs.Check.{badInode}
 use borrow.Author.Needs.{needs}
 use Rattle.tfs_tally.proofs.files.first_bad_inode.Statement.{statement}
 use Rattle.tfs_tally.proofs.files.first_bad_inode.Tie as tie

@@ -5,7 +5,7 @@ use native.Mathlib.Omega.{arith}
 use native.Mathlib.Nat.{add-sub-cancel-left}
 use lib.ListN.{length, length-take, length-drop}
 use denote.Ref.{now}
-use Rattle.tfs_rules.specs.View.{view}
+use Rattle.tfs_spec.specs.View.{view}
 use Rattle.tfs_inode.specs.Wrong.{bad-inode}
 use Rattle.tfs_tally.specs.Files.{blocks-le, inode-fits, wrong-at}
 use borrow.Author.Needs.{needs}

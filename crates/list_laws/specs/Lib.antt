@@ -1,0 +1,8 @@
+pub mod Test
+pub mod Least
+pub mod Sum
+pub mod Table
+pub mod Word
+pub mod Bits
+pub mod Part
+pub mod Store

@@ -1,0 +1,1 @@
+// Laws of the functions in lists. No code: see specs/.

@@ -1,0 +1,12 @@
+pub mod Facts
+pub mod Visit
+pub mod Lowest
+pub mod Walked
+pub mod Seek
+pub mod Links
+pub mod Theorems
+pub mod Given
+pub mod Find
+pub mod Answered
+pub mod Past
+pub mod Means

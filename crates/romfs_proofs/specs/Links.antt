@@ -1,0 +1,182 @@
+-- Rule 29: the lowest reached header with a bad link is the first that the walk meets.
+use Prim.Native.Nat.{ℕ, _-_, _<_}
+use mathlib.Core.Path.{_≡_, refl, sym, ap, _∙_}
+use mathlib.Core.Logic.{_≢_, ⊎-elim}
+use mathlib.Core.Bool.{Bool, true, false, not, cond, _&&_, _||_}
+use mathlib.Core.List.{List}
+use native.Mathlib.Omega.{arith}
+use native.Mathlib.Decide.{ℕ-discrete}
+use borrow.Author.Tests.{eq-eqb, ne-eqb, eqb-true, eqb-false, lt-ltb, le-ltb, ltb-true, ltb-false, not-false, not-true}
+use lib.Dec.{T, ltb, eqb}
+use Rattle.list_laws.specs.Test.{of-true, to-true, no-false, or-no-l, or-no-r}
+use Rattle.lists.specs.Lists.{least}
+use Rattle.list_laws.specs.Least.{least-is, least-all, least-hit, least-none, least-below}
+use Rattle.romfs_spec.specs.Layout.{fullSize, firstRoot, kind, info, isDots}
+use Rattle.romfs_spec.specs.Rules.{Verdict, accepted, refused}
+use Rattle.romfs_spec.specs.Reached.{Reached, root, along, inside, IsReached, Linked}
+use Rattle.romfs_spec.specs.Check.{visitAll, walk, isReached, badLink, links}
+use Rattle.romfs_proofs.specs.Facts.{and-no, and-yes-l, and-yes-r, both, true-false, list-descends, list-first}
+use Rattle.romfs_proofs.specs.Visit.{not-both}
+use Rattle.romfs_proofs.specs.Lowest.{Lowest, lowest, Out, fine, broken, out, yes-no}
+use Rattle.romfs_proofs.specs.Walked.{Volume, root-in, has-root, met, all-met, sound, visit-none, visit-root, reached-in}
+use Rattle.romfs_proofs.specs.Seek.{is-reached, reached-is}
+
+-- ---- a bad link is one that is not linked
+or-false : (a b : Bool) → a ≡ false → b ≡ false → (a || b) ≡ false
+or-false a b e f = rw (e, f)
+
+pub linked-of : (s : List ℕ) (p : ℕ) → badLink s p ≡ false → Linked s p
+unfolding badLink
+linked-of s p e =
+    let x : Bool = eqb (kind s p) 0 && not (isReached s (info s p) && not (eqb (kind s (info s p)) 0)) in
+    let y : Bool = (eqb (kind s p) 1 && isDots s p) && not (isReached s (info s p)) in
+    let target : kind s p ≡ 0 → (isReached s (info s p) && not (eqb (kind s (info s p)) 0)) ≡ true =
+    λ k. not-false (isReached s (info s p) && not (eqb (kind s (info s p)) 0)) (and-no (eqb (kind s p) 0) (not (isReached s (info s p) && not (eqb (kind s (info s p)) 0))) (or-no-l x y e) (eq-eqb (kind s p) 0 k)) in
+    record {
+      hard = λ k. (
+        is-reached s (info s p) (and-yes-l (isReached s (info s p)) (not (eqb (kind s (info s p)) 0)) (target k)),
+        eqb-false (kind s (info s p)) 0 (not-true (eqb (kind s (info s p)) 0) (and-yes-r (isReached s (info s p)) (not (eqb (kind s (info s p)) 0)) (target k))),
+      );
+      dots = λ k t.
+          is-reached s (info s p)
+          (not-false (isReached s (info s p))
+          (and-no (eqb (kind s p) 1 && isDots s p) (not (isReached s (info s p))) (or-no-r x y e) (both (eqb (kind s p) 1) (isDots s p) (eq-eqb (kind s p) 1 k) t)));
+    }
+
+pub of-linked : (s : List ℕ) (p : ℕ) → Volume s → walk s ≡ accepted → Linked s p → badLink s p ≡ false
+unfolding badLink
+of-linked s p v w h =
+    or-false (eqb (kind s p) 0 && not (isReached s (info s p) && not (eqb (kind s (info s p)) 0)))
+    ((eqb (kind s p) 1 && isDots s p) && not (isReached s (info s p)))
+    (⊎-elim
+    (λ k.
+    let t = h .hard (eqb-true (kind s p) 0 k) in
+    rw (reached-is s (info s p) v w (t .0), ne-eqb (kind s (info s p)) 0 (t .1), k))
+    (λ k. rw k)
+    (yes-no (eqb (kind s p) 0)))
+    (⊎-elim
+    (λ k.
+    rw (reached-is s (info s p) v w (h .dots (eqb-true (kind s p) 1 (and-yes-l (eqb (kind s p) 1) (isDots s p) k)) (and-yes-r (eqb (kind s p) 1) (isDots s p) k)), k))
+    (λ k. rw k)
+    (yes-no (eqb (kind s p) 1 && isDots s p)))
+
+-- ---- the second walk
+unfoldable pub linkFault : List ℕ → ℕ → ℕ → ℕ → Verdict
+linkFault s bound depth p = cond (badLink s p) (refused 29 p) accepted
+
+link-fine : (s : List ℕ) (bound depth p : ℕ) → linkFault s bound depth p ≡ accepted → badLink s p ≡ false
+unfolding linkFault
+link-fine s bound depth p e = go (badLink s p) e
+  where
+    go : (b : Bool) → cond b (refused 29 p) accepted ≡ accepted → b ≡ false
+    go true f = absurd (not-both f refl)
+    go false f = refl
+
+link-broken : (s : List ℕ) (bound depth p n x : ℕ) → linkFault s bound depth p ≡ refused n x → (badLink s p ≡ true) × (n ≡ 29) × (x ≡ p)
+unfolding linkFault
+link-broken s bound depth p n x e = go (badLink s p) e
+  where
+    go : (b : Bool) → cond b (refused 29 p) accepted ≡ refused n x → (b ≡ true) × (n ≡ 29) × (x ≡ p)
+    go true f = (refl, (cc), (cc))
+    go false f = absurd (not-both refl f)
+
+-- a reached header with a bad link
+abbrev faulty : List ℕ → ℕ → Bool
+faulty s p = isReached s p && badLink s p
+
+not-faulty : (s : List ℕ) (p : ℕ) → (isReached s p ≡ true → badLink s p ≡ false) → T (not (faulty s p))
+not-faulty s p h = go (isReached s p) (badLink s p) h
+  where
+    go : (a b : Bool) → (a ≡ true → b ≡ false) → T (not (a && b))
+    go true b f = rw (f refl) tt
+    go false b f = tt
+
+pub links-none : (s : List ℕ) → ((p : ℕ) → isReached s p ≡ true → badLink s p ≡ false) → links s ≡ accepted
+unfolding links
+links-none s h =
+    let e : least (λ p. isReached s p && badLink s p) (fullSize s) ≡ fullSize s = least-all (faulty s) (fullSize s) (λ i l. not-faulty s i (h i)) in
+    rw (e, le-ltb (fullSize s) (fullSize s) (omega arith))
+
+pub links-at : (s : List ℕ) (x : ℕ) → x < fullSize s → isReached s x ≡ true → badLink s x ≡ true → ((p : ℕ) → p < x → isReached s p ≡ true → badLink s p ≡ false) → links s ≡ refused 29 x
+unfolding links
+links-at s x h r t below =
+    let e : least (λ p. isReached s p && badLink s p) (fullSize s) ≡ x = least-is (faulty s) (fullSize s) x h (of-true (faulty s x) (both (isReached s x) (badLink s x) r t)) (λ i l. not-faulty s i (below i l)) in
+    rw (e, lt-ltb x (fullSize s) h)
+
+module _ (s : List ℕ) (v : Volume s) (w : walk s ≡ accepted) where
+  abbrev Low : ℕ → ℕ → Type 0
+  Low n x = Lowest s (linkFault s) (Reached s) (λ q b d r t. sound s v w r) (λ q b d r t z. along r z) (λ q b d r t u. inside r (list-descends s q u) (list-first s q u)) (λ q b d n x e. link-broken s b d q n x e .2) (firstRoot s) (fullSize s) 1 n x
+
+  visit-low : (n x : ℕ) → firstRoot s ≢ fullSize s → visitAll s (linkFault s) ≡ refused n x → Low n x
+  visit-low n x z e =
+      lowest s (linkFault s) (Reached s) (λ q b d r t. sound s v w r) (λ q b d r t y. along r y) (λ q b d r t u. inside r (list-descends s q u) (list-first s q u)) (λ q b d n x e. link-broken s b d q n x e .2) 7
+      (fullSize s - firstRoot s) (firstRoot s) (fullSize s) 1 n x
+      (root z)
+      (omega arith)
+      (root-in s v z)
+      (omega arith)
+      (sym (visit-root s (linkFault s) z) ∙ e)
+
+  links-by : Out (visitAll s (linkFault s)) → visitAll s (linkFault s) ≡ links s
+  links-by (fine a) =
+      a ∙ sym (links-none s (λ p e.
+      let r : IsReached s p = is-reached s p e in
+      link-fine s (r .bound) (r .depth) p (all-met s v (linkFault s) a (has-root (r .reached)) (met s v w (r .reached)))))
+  links-by (broken n x a) =
+      elim (ℕ-discrete (firstRoot s) (fullSize s)) [
+        | yes z ↦ absurd (not-both (visit-none s (linkFault s) z) a)
+        | no z ↦
+            let low : Low n x = visit-low n x z a in
+            let bad = link-broken s (low .b) (low .d) x n x (low .refuses) in
+            let x-in = reached-in s v w (low .known) in
+            a
+            ∙ ap (λ (m : ℕ). refused m x) (bad .1)
+            ∙ sym (links-at s x (omega arith) (reached-is s x v w (record { bound = low .b; depth = low .d; reached = low .known })) (bad .0)
+            (λ p l e.
+            let r : IsReached s p = is-reached s p e in
+            link-fine s (r .bound) (r .depth) p (low .lower p (r .bound) (r .depth) (met s v w (r .reached)) l)))
+      ]
+
+  -- the second walk gives the lowest bad link
+  pub links-visit : visitAll s (linkFault s) ≡ links s
+  links-visit = links-by (out (visitAll s (linkFault s)))
+
+-- ---- the lowest
+unless-linked : (s : List ℕ) (i : ℕ) → T (not (faulty s i)) → isReached s i ≡ true → badLink s i ≡ false
+unless-linked s i t e = go (isReached s i) (badLink s i) t e
+  where
+    go : (a b : Bool) → T (not (a && b)) → a ≡ true → b ≡ false
+    go true b u f = no-false b u
+    go false b u f = absurd (true-false refl (sym f))
+
+cond-fine : (b : Bool) (x : ℕ) → cond b (refused 29 x) accepted ≡ accepted → b ≡ false
+cond-fine true x e = absurd (not-both e refl)
+cond-fine false x e = refl
+
+cond-broken : (b : Bool) (x n p : ℕ) → cond b (refused 29 x) accepted ≡ refused n p → (b ≡ true) × (n ≡ 29) × (x ≡ p)
+cond-broken true x n p e = (refl, (cc), (cc))
+cond-broken false x n p e = absurd (not-both refl e)
+
+pub links-clear : (s : List ℕ) → links s ≡ accepted → (i : ℕ) → i < fullSize s → isReached s i ≡ true → badLink s i ≡ false
+unfolding links
+links-clear s e i h =
+    unless-linked s i
+    (least-none (faulty s) (fullSize s) (ltb-false (least (faulty s) (fullSize s)) (fullSize s) (cond-fine (ltb (least (faulty s) (fullSize s)) (fullSize s)) (least (faulty s) (fullSize s)) e)) i h)
+
+pub record LowestLink (s : List ℕ) (n p : ℕ) : Type 0 where
+  pub number : n ≡ 29
+  pub reached : isReached s p ≡ true
+  pub bad : badLink s p ≡ true
+  pub lower : (i : ℕ) → i < p → isReached s i ≡ true → badLink s i ≡ false
+
+pub links-lowest : (s : List ℕ) (n p : ℕ) → links s ≡ refused n p → LowestLink s n p
+unfolding links
+links-lowest s n p e =
+    let c = cond-broken (ltb (least (faulty s) (fullSize s)) (fullSize s)) (least (faulty s) (fullSize s)) n p e in
+    let hit : faulty s p ≡ true = ap (faulty s) (sym (c .2)) ∙ to-true (faulty s (least (faulty s) (fullSize s))) (least-hit (faulty s) (fullSize s) (ltb-true (least (faulty s) (fullSize s)) (fullSize s) (c .0))) in
+    record {
+      number = c .1;
+      reached = and-yes-l (isReached s p) (badLink s p) hit;
+      bad = and-yes-r (isReached s p) (badLink s p) hit;
+      lower = λ i l. unless-linked s i (least-below (faulty s) (fullSize s) i (omega (arith, c .2)));
+    }

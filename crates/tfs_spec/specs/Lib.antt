@@ -1,0 +1,5 @@
+pub mod Layout
+pub mod View
+pub mod Check
+pub mod Consistent
+pub mod Requests

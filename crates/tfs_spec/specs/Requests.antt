@@ -1,0 +1,212 @@
+-- The requests: for every input the answer, the image after and the buffer after.
+use mathlib.Core.Bool.{Bool, true, false, not, cond}
+use Prim.Native.Nat.{ℕ, zero, suc, _+_, _-_, _*_, min}
+use mathlib.Core.List.{List, [], _∷_, _++_}
+use lib.ListN.{length, getD, take, drop}
+use lib.Dec.{ltb}
+use Rattle.lists.specs.Lists.{zeros, padTo, table, bytes4, storeAt}
+use Rattle.tfs_spec.specs.Layout.{slots, maxSize, need, setBlock, magic, mapBit, setBits, setSlot, entry, inodeBlock, labelAllowed, nameAllowed}
+use Rattle.tfs_spec.specs.View.{View, view, free, inode, name, size, slotOf, slotWith, freeSlot, place, freeBlocks}
+use Rattle.tfs_spec.specs.Check.{Verdict, consistent, broken, tooShort, check, fileClaims}
+
+-- "An answer is either granted with its result or refused with a reason"
+pub data Answer : Type 0 where
+  -- granted, with no result
+  done : Answer
+  -- granted: a handle, a count or free bytes
+  value : ℕ → Answer
+  -- granted, of list: a free slot; or name, inode number and size
+  unused : Answer
+  file : List ℕ → ℕ → ℕ → Answer
+  -- the refusal's number and place
+  refused : ℕ → ℕ → Answer
+
+abbrev pub granted : Answer → Bool
+granted done = true
+granted (value x) = true
+granted unused = true
+granted (file nm i z) = true
+granted (refused num p) = false
+
+-- what a request answers, and the image that it leaves
+pub record Outcome : Type 0 where
+  pub answer : Answer
+  pub image : List ℕ
+
+-- what read answers, and the buffer that it leaves
+pub record Filled : Type 0 where
+  pub answer : Answer
+  pub buffer : List ℕ
+
+-- "Refusals 8 to 15 have place 0"; "A refusal leaves the image and lent buffers unchanged"
+abbrev pub refuse : List ℕ → ℕ → Outcome
+refuse img num = record { answer = refused num 0; image = img }
+
+-- "Every request but format runs the check first and gives its refusal"
+abbrev pub checked : Verdict → Answer → Answer
+checked consistent a = a
+checked (broken num p) a = refused num p
+
+abbrev pub checkedOutcome : Verdict → List ℕ → Outcome → Outcome
+checkedOutcome consistent img o = o
+checkedOutcome (broken num p) img o = record { answer = refused num p; image = img }
+
+abbrev pub checkedFilled : Verdict → List ℕ → Filled → Filled
+checkedFilled consistent buf f = f
+checkedFilled (broken num p) buf f = record { answer = refused num p; buffer = buf }
+
+-- ---- whole-block stores, in order
+pub record Store : Type 0 where
+  pub at : ℕ
+  pub bytes : List ℕ
+
+abbrev pub store : ℕ → List ℕ → Store
+store b bs = record { at = b; bytes = bs }
+
+abbrev pub storeAll : ℕ → List ℕ → List Store → List ℕ
+storeAll B img [] = img
+storeAll B img (x ∷ xs) = storeAll B (setBlock B img (x .at) (x .bytes)) xs
+
+-- ---- format: "refuses 1, then 8"
+-- "Zeros all of blocks 0 to 2; sets magic, name and map bits 0, 1, 2"
+unfoldable pub formatStores : ℕ → List ℕ → List Store
+formatStores B label =
+    store 0 (bytes4 magic ++ padTo (B - 4) label)
+    ∷ store 1 (setBits (zeros B) 1 (0 ∷ 1 ∷ 2 ∷ []))
+    ∷ store 2 (zeros B)
+    ∷ []
+
+unfoldable pub format : ℕ → List ℕ → List ℕ → Outcome
+format B img label =
+    let after : Outcome = record { answer = done; image = storeAll B img (formatStores B label) } in
+    cond (tooShort B img) (refuse img 1)
+    (cond (not (labelAllowed label)) (refuse img 8) after)
+
+-- ---- check
+unfoldable pub checkAnswer : ℕ → List ℕ → Answer
+checkAnswer B img = checked (check B img) done
+
+-- ---- open: 8, 13
+unfoldable pub openView : ℕ → View → List ℕ → Answer
+openView B v nm =
+    let s : ℕ = slotOf B v nm in
+    cond (not (nameAllowed nm)) (refused 8 0)
+    (cond (not (ltb s (slots B))) (refused 13 0) (value (inode v s)))
+
+unfoldable pub openAnswer : ℕ → List ℕ → List ℕ → Answer
+openAnswer B img nm = checked (check B img) (openView B (view B img) nm)
+
+-- ---- create: 8, 9, 10, 11, 12
+-- the free blocks from k on among the next d, rising
+unfoldable pub freeFrom : List ℕ → ℕ → ℕ → List ℕ
+freeFrom map k zero = []
+freeFrom map k (suc d) = let t : List ℕ = freeFrom map (suc k) d in cond (mapBit map k) t (k ∷ t)
+
+-- "lowest free block becomes the inode, the next lowest in rising order hold content"
+unfoldable pub chosen : ℕ → View → ℕ → List ℕ
+chosen B v sz = take (1 + need B sz) (freeFrom (v .map) 0 (v .n))
+
+-- "all content blocks wholly zero"
+abbrev pub zeroStores : ℕ → List ℕ → List Store
+zeroStores B [] = []
+zeroStores B (b ∷ bs) = store b (zeros B) ∷ zeroStores B bs
+
+-- content blocks in file order, inode, map, directory
+unfoldable pub placeStores : ℕ → View → ℕ → List ℕ → ℕ → List ℕ → List Store
+placeStores B v s nm sz [] = []
+placeStores B v s nm sz (i ∷ bs) =
+    zeroStores B bs
+    ++ (store i (inodeBlock B sz bs)
+    ∷ store 1 (setBits (v .map) 1 (i ∷ bs))
+    ∷ store 2 (setSlot (v .dir) s (entry i nm))
+    ∷ [])
+
+-- "lowest free slot"
+unfoldable pub createStores : ℕ → View → List ℕ → ℕ → List Store
+createStores B v nm sz = placeStores B v (freeSlot B v) nm sz (chosen B v sz)
+
+unfoldable pub createView : ℕ → View → List ℕ → ℕ → Answer
+createView B v nm sz =
+    let handle : ℕ = getD (chosen B v sz) 0 0 in
+    cond (not (nameAllowed nm)) (refused 8 0)
+    (cond (ltb (maxSize B) sz) (refused 9 0)
+    (cond (ltb (slotOf B v nm) (slots B)) (refused 10 0)
+    (cond (not (ltb (freeSlot B v) (slots B))) (refused 11 0)
+    (cond (ltb (freeBlocks v) (1 + need B sz)) (refused 12 0) (value handle)))))
+
+-- the image after: that of the stores where the answer is a grant
+abbrev pub stored : ℕ → List ℕ → Answer → List Store → Outcome
+stored B img a xs = record { answer = a; image = cond (granted a) (storeAll B img xs) img }
+
+unfoldable pub create : ℕ → List ℕ → List ℕ → ℕ → Outcome
+create B img nm sz =
+    let v : View = view B img in
+    checkedOutcome (check B img) img (stored B img (createView B v nm sz) (createStores B v nm sz))
+
+-- ---- remove: 8, 13
+-- "clears the bits of inode and content, zeros the 20 bytes of the slot": directory, map
+unfoldable pub removeStores : ℕ → View → List ℕ → List Store
+removeStores B v nm =
+    let s : ℕ = slotOf B v nm in
+    store 2 (setSlot (v .dir) s (zeros 20))
+    ∷ store 1 (setBits (v .map) 0 (fileClaims B v s))
+    ∷ []
+
+unfoldable pub removeView : ℕ → View → List ℕ → Answer
+removeView B v nm =
+    cond (not (nameAllowed nm)) (refused 8 0)
+    (cond (not (ltb (slotOf B v nm) (slots B))) (refused 13 0) done)
+
+unfoldable pub remove : ℕ → List ℕ → List ℕ → Outcome
+remove B img nm =
+    let v : View = view B img in
+    checkedOutcome (check B img) img (stored B img (removeView B v nm) (removeStores B v nm))
+
+-- ---- read and write: 14, 15
+-- "count = smaller of buffer length and size − offset"
+unfoldable pub counted : View → ℕ → ℕ → ℕ → ℕ
+counted v s o len = min len (size v s - o)
+
+-- "handle is no used slot's inode number"; "offset greater than size"
+unfoldable pub transferView : ℕ → View → ℕ → ℕ → ℕ → Answer
+transferView B v h o len =
+    let s : ℕ = slotWith B v h in
+    cond (not (ltb s (slots B))) (refused 14 0)
+    (cond (ltb (size v s) o) (refused 15 0) (value (counted v s o len)))
+
+-- "Read leaves the rest of the buffer"
+unfoldable pub readBuffer : ℕ → View → List ℕ → ℕ → ℕ → List ℕ → List ℕ
+readBuffer B v img s o buf =
+    let c : ℕ = counted v s o (length buf) in
+    table (λ p. getD img (place B v s p) 0) o c ++ drop c buf
+
+unfoldable pub read : ℕ → List ℕ → ℕ → ℕ → List ℕ → Filled
+read B img h o buf =
+    let v : View = view B img in
+    let a : Answer = transferView B v h o (length buf) in
+    checkedFilled (check B img) buf
+    (record { answer = a; buffer = cond (granted a) (readBuffer B v img (slotWith B v h) o buf) buf })
+
+-- "Write changes only those content bytes"
+unfoldable pub writeImage : ℕ → View → List ℕ → ℕ → ℕ → List ℕ → List ℕ
+writeImage B v img s o buf = storeAt (place B v s) img o (take (counted v s o (length buf)) buf)
+
+unfoldable pub write : ℕ → List ℕ → ℕ → ℕ → List ℕ → Outcome
+write B img h o buf =
+    let v : View = view B img in
+    let a : Answer = transferView B v h o (length buf) in
+    checkedOutcome (check B img) img
+    (record { answer = a; image = cond (granted a) (writeImage B v img (slotWith B v h) o buf) img })
+
+-- ---- list: "slot over 24" is 14; "a free slot, or name, inode number and size"
+unfoldable pub listView : ℕ → View → ℕ → Answer
+listView B v s =
+    cond (not (ltb s (slots B))) (refused 14 0)
+    (cond (free v s) unused (file (name v s) (inode v s) (size v s)))
+
+unfoldable pub listAnswer : ℕ → List ℕ → ℕ → Answer
+listAnswer B img s = checked (check B img) (listView B (view B img) s)
+
+-- ---- free bytes: "512 times the zero bits below N"
+unfoldable pub freeAnswer : ℕ → List ℕ → Answer
+freeAnswer B img = checked (check B img) (value (B * freeBlocks (view B img)))
