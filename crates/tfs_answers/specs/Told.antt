@@ -16,7 +16,7 @@ use Rattle.tfs_answers.specs.declared.Listing.{Listing}
 
 -- a fault of the volume, as a refusal
 abbrev pub faultAnswer : Fault → rules.Answer
-faultAnswer f = rules.checked (faultTold f) rules.done
+faultAnswer f = rules.checked (faultTold f) rules.refused rules.done
 
 abbrev pub answerTold : Answer → rules.Answer
 answerTold (answer.Granted x) = rules.value x

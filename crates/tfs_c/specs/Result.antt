@@ -118,7 +118,7 @@ slot-is r t e n =
     let u = subst (λ x. TellsEntry r x) e t in
     λ i. record { refusal = u .0 i; place = u .1 i; used = u .2 i; inode = u .3 i; size = u .4 i; namelen = u .5 i; name = n i }
 
-pub checked-is : (c : Checked) → checkedAnswer c ≡ checked (checkedTold c) done
+pub checked-is : (c : Checked) → checkedAnswer c ≡ checked (checkedTold c) refused done
 checked-is Consistent = refl
 checked-is (Refused (Header num)) = refl
 checked-is (Refused (Slot num s)) = refl

@@ -13,7 +13,7 @@ use Rattle.tfs_spec.specs.View.{View, view, name, slotOf, slotWith, contents}
 use Rattle.tfs_spec.specs.Check.{Verdict, consistent, broken, check}
 use Rattle.tfs_spec.specs.Consistent.{Consistent}
 use Rattle.tfs_facts.specs.CheckMeans.{check-means}
-use Rattle.tfs_spec.specs.Requests.{Answer, granted, Outcome, checkedOutcome, stored, storeAll, createView, createStores, create, removeView, removeStores, remove, transferView, write}
+use Rattle.tfs_spec.specs.Requests.{Answer, granted, Outcome, stored, storeAll, createView, createStores, create, removeView, removeStores, remove, transferView, write, checked, refuse, refused}
 use Rattle.tfs_facts.specs.Views.{view-head}
 use Rattle.tfs_laws.specs.WriteLists.{wr, request, putOf, request-answer, request-image, request-view, request-length, request-sound}
 use Rattle.tfs_facts.specs.Names.{handle-hit}
@@ -94,7 +94,7 @@ module _ (B : ℕ) (img : List ℕ) (passed : Passed B img) where
       ltb→lt (slotWith B (view B img) h) (slots B) (not-not (ltb (slotWith B (view B img) h) (slots B)) (g14 .0))
 
 -- "A refused request changes no byte of the image"
-refused-core : (f : Verdict) (img new : List ℕ) (a : Answer) → T (not (granted (checkedOutcome f img (record { answer = a; image = cond (granted a) new img }) .answer))) → checkedOutcome f img (record { answer = a; image = cond (granted a) new img }) .image ≡ img
+refused-core : (f : Verdict) (img new : List ℕ) (a : Answer) → T (not (granted (checked f (refuse img) (record { answer = a; image = cond (granted a) new img }) .answer))) → checked f (refuse img) (record { answer = a; image = cond (granted a) new img }) .image ≡ img
 refused-core consistent img new a t = cond-no (granted a) new img t
 refused-core (broken num q) img new a t = refl
 

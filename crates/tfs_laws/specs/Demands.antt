@@ -16,7 +16,7 @@ use Rattle.tfs_spec.specs.View.{view, size, number, freeBlocks, content, conten
 use Rattle.tfs_spec.specs.Check.{Verdict, consistent, broken, check}
 use Rattle.tfs_spec.specs.Consistent.{File, Consistent, FirstBroken}
 use Rattle.tfs_facts.specs.CheckMeans.{check-means, check-breaks}
-use Rattle.tfs_spec.specs.Requests.{Answer, done, value, refused, granted, Outcome, Filled, checked, format, checkAnswer, openAnswer, create, remove, read, write, listAnswer, freeAnswer}
+use Rattle.tfs_spec.specs.Requests.{Answer, done, value, refused, granted, Outcome, Filled, checked, format, checkAnswer, openAnswer, create, remove, read, write, listAnswer, freeAnswer, refuse}
 use Rattle.tfs_facts.specs.Total.{inodeCount, contentCount, adds-up}
 use Rattle.tfs_facts.specs.Views.{view-n}
 use Rattle.tfs_laws.specs.Content.{content-joined}
@@ -186,12 +186,12 @@ pub record CheckLaw (img : List ℕ) : Type 0 where
   pub refuses : (num p : ℕ) → (checkAnswer 512 img ≡ refused num p) ↔ FirstBroken 512 img num p
 
 -- an answer of check tells the verdict
-told-done : (x : Verdict) → (checked x done ≡ done) ↔ (x ≡ consistent)
+told-done : (x : Verdict) → (checked x refused done ≡ done) ↔ (x ≡ consistent)
 told-done consistent = ((λ _. refl), λ _. refl)
 told-done (broken num p) =
     ((λ e. absurd (let z : _≡_ {A = ℕ} 0 1 = cc in omega arith)), λ e. absurd (let z : _≡_ {A = ℕ} 0 1 = cc in omega arith))
 
-told-broken : (x : Verdict) (num p : ℕ) → (checked x done ≡ refused num p) ↔ (x ≡ broken num p)
+told-broken : (x : Verdict) (num p : ℕ) → (checked x refused done ≡ refused num p) ↔ (x ≡ broken num p)
 told-broken consistent num p =
     ((λ e. absurd (let z : _≡_ {A = ℕ} 0 1 = cc in omega arith)), λ e. absurd (let z : _≡_ {A = ℕ} 0 1 = cc in omega arith))
 told-broken (broken m q) num p = ((λ e. ap₂ broken (cc) (cc)), λ e. ap₂ refused (cc) (cc))
@@ -375,7 +375,7 @@ pub total-law : (img : List ℕ) → Consistent 512 img → TotalLaw img
 unfolding freeAnswer
 total-law img ok =
     record {
-      bytes = ap (λ (x : Verdict). checked x (value (512 * freeBlocks (view 512 img)))) (check-means 512 size-512 img .1 ok);
+      bytes = ap (λ (x : Verdict). checked x refused (value (512 * freeBlocks (view 512 img)))) (check-means 512 size-512 img .1 ok);
       total = adds-up 512 size-512 img ok ∙ view-n 512 img;
     }
 

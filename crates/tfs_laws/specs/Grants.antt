@@ -372,16 +372,16 @@ module _ (B : ℕ) (img label : List ℕ) where
       (λ u. unlabelled l (λ r. T-not (labelAllowed label) u (label-allowed label .1 r)))
       (λ u. formatted l (label-allowed label .0 (not-not (labelAllowed label) u))))
 
-  past-short : 3 * B ≤ length img → (x : Outcome) → cond (ltb (length img) (3 * B)) (refuse img 1) x .answer ≡ x .answer
-  past-short l x = ap (λ (o : Outcome). o .answer) (cond-no (ltb (length img) (3 * B)) (refuse img 1) x (le→nltb (length img) (3 * B) l))
+  past-short : 3 * B ≤ length img → (x : Outcome) → cond (ltb (length img) (3 * B)) (refuse img 1 0) x .answer ≡ x .answer
+  past-short l x = ap (λ (o : Outcome). o .answer) (cond-no (ltb (length img) (3 * B)) (refuse img 1 0) x (le→nltb (length img) (3 * B) l))
 
   format-only : (a : Answer) → FormatRule B img label a → format B img label .answer ≡ a
   unfolding format tooShort
-  format-only _ (short l) = ap (λ (o : Outcome). o .answer) (cond-yes (ltb (length img) (3 * B)) (refuse img 1) _ (lt→ltb (length img) (3 * B) l))
+  format-only _ (short l) = ap (λ (o : Outcome). o .answer) (cond-yes (ltb (length img) (3 * B)) (refuse img 1 0) _ (lt→ltb (length img) (3 * B) l))
   format-only _ (unlabelled l h) =
-      past-short l _ ∙ ap (λ (o : Outcome). o .answer) (cond-yes (not (labelAllowed label)) (refuse img 8) _ (not-T (labelAllowed label) (λ t. h (label-allowed label .0 t))))
+      past-short l _ ∙ ap (λ (o : Outcome). o .answer) (cond-yes (not (labelAllowed label)) (refuse img 8 0) _ (not-T (labelAllowed label) (λ t. h (label-allowed label .0 t))))
   format-only _ (formatted l r) =
-      past-short l _ ∙ ap (λ (o : Outcome). o .answer) (cond-no (not (labelAllowed label)) (refuse img 8) _ (yes-yes (labelAllowed label) (label-allowed label .1 r)))
+      past-short l _ ∙ ap (λ (o : Outcome). o .answer) (cond-no (not (labelAllowed label)) (refuse img 8 0) _ (yes-yes (labelAllowed label) (label-allowed label .1 r)))
 
   pub format-rule : (a : Answer) → (format B img label .answer ≡ a) ↔ FormatRule B img label a
   format-rule a = ((λ e. subst (FormatRule B img label) e format-holds), format-only a)

@@ -17,7 +17,7 @@ use Rattle.list_laws.specs.Part.{getD-part, part-ext}
 use Rattle.tfs_spec.specs.Layout.{BlockSize, slots, numbers, maxSize, need, blocks, block, slot, slotInode, slotName, slotFree, slotUsed, inRange, sameName, mapBit, magic, volumeName, nameAllowed, inodeSize, inodeNumber}
 use Rattle.tfs_spec.specs.View.{View, view, viewN, inodeAt, free, used, inode, name, size, number, slotOf, slotWith, freeSlot, place, freeBlocks}
 use Rattle.tfs_spec.specs.Check.{Verdict, consistent, broken, found, tooShort, badMagic, badLabel, repeats, badSlot, badNumber, badInode, fileClaims, claimsTo, claims, claimedTwice, badBit, checkView, check, times}
-use Rattle.tfs_spec.specs.Requests.{Answer, value, refused, unused, file, granted, checked, checkedOutcome, checkedFilled, readBuffer, openView, openAnswer, freeFrom, chosen, createView, create, removeView, remove, counted, transferView, read, write, listView, listAnswer, freeAnswer}
+use Rattle.tfs_spec.specs.Requests.{Answer, value, refused, unused, file, granted, checked, readBuffer, openView, openAnswer, freeFrom, chosen, createView, create, removeView, remove, counted, transferView, read, write, listView, listAnswer, freeAnswer, refuse, refuseFilled}
 use Rattle.tfs_facts.specs.Views.{view-n, view-head, view-map, view-dir}
 use Rattle.tfs_spec.specs.Consistent.{Inside, Sound}
 use Rattle.tfs_facts.specs.CheckMeans.{check-means}
@@ -268,7 +268,7 @@ pub record IgnoredLaw (B : ℕ) (a b : List ℕ) : Type 0 where
   pub list-same : (s : ℕ) → listAnswer B a s ≡ listAnswer B b s
   pub free-same : freeAnswer B a ≡ freeAnswer B b
 
-outcome-answer : (f : Verdict) (img new : List ℕ) (x : Answer) → checkedOutcome f img (record { answer = x; image = cond (granted x) new img }) .answer ≡ checked f x
+outcome-answer : (f : Verdict) (img new : List ℕ) (x : Answer) → checked f (refuse img) (record { answer = x; image = cond (granted x) new img }) .answer ≡ checked f refused x
 outcome-answer consistent img new x = refl
 outcome-answer (broken num p) img new x = refl
 
@@ -276,7 +276,7 @@ outcome-answer (broken num p) img new x = refl
 read-alike : (B : ℕ) → BlockSize B → (a b : List ℕ) → SameRead B a b → Alike B (view B a) (view B b) → check B a ≡ check B b → (h o : ℕ) (buf : List ℕ) → read B a h o buf ≡ read B b h o buf
 unfolding read readBuffer counted place
 read-alike B size-ok a b same al ch h o buf =
-    ap (λ (f : Verdict). checkedFilled f buf (record { answer = transferView B v h o (length buf); buffer = cond (granted (transferView B v h o (length buf))) (readBuffer B v a (slotWith B v h) o buf) buf })) ch
+    ap (λ (f : Verdict). checked f (refuseFilled buf) (record { answer = transferView B v h o (length buf); buffer = cond (granted (transferView B v h o (length buf))) (readBuffer B v a (slotWith B v h) o buf) buf })) ch
     ∙ go (check B b) refl
   where
     v : View
@@ -298,7 +298,7 @@ read-alike B size-ok a b same al ch h o buf =
         ap (λ (k : ℕ). getD a (k * B + p % B) 0) (number-alike B v w al s (p / B))
         ∙ block-byte B a b (number w s (p / B)) (p % B) (in-block B (omega (arith, size-ok .large)) p) (same .rest (number w s (p / B)) (c .low) (omega (arith, c .high, view-n B b, blocks-eq B a b (same .long))))))
 
-    go : (x : Verdict) → check B b ≡ x → checkedFilled x buf (record { answer = transferView B v h o (length buf); buffer = cond (granted (transferView B v h o (length buf))) (readBuffer B v a (slotWith B v h) o buf) buf }) ≡ checkedFilled x buf (record { answer = transferView B w h o (length buf); buffer = cond (granted (transferView B w h o (length buf))) (readBuffer B w b (slotWith B w h) o buf) buf })
+    go : (x : Verdict) → check B b ≡ x → checked x (refuseFilled buf) (record { answer = transferView B v h o (length buf); buffer = cond (granted (transferView B v h o (length buf))) (readBuffer B v a (slotWith B v h) o buf) buf }) ≡ checked x (refuseFilled buf) (record { answer = transferView B w h o (length buf); buffer = cond (granted (transferView B w h o (length buf))) (readBuffer B w b (slotWith B w h) o buf) buf })
     go consistent e = λ i.
         record {
           answer = ta i;
@@ -311,16 +311,16 @@ unfolding openAnswer create remove read write listAnswer freeAnswer
 ignored B size-ok a b same =
     record {
       check-same = ch;
-      open-same = λ nm. ap₂ checked ch (open-alike B (view B a) (view B b) al nm);
+      open-same = λ nm. ap₂ (λ (f : Verdict) (x : Answer). checked f refused x) ch (open-alike B (view B a) (view B b) al nm);
       create-same = λ nm z.
-          (outcome-answer (check B a) a _ (createView B (view B a) nm z) ∙ ap₂ checked ch (create-alike B (view B a) (view B b) al nm z) ∙ sym (outcome-answer (check B b) b _ (createView B (view B b) nm z)));
+          (outcome-answer (check B a) a _ (createView B (view B a) nm z) ∙ ap₂ (λ (f : Verdict) (x : Answer). checked f refused x) ch (create-alike B (view B a) (view B b) al nm z) ∙ sym (outcome-answer (check B b) b _ (createView B (view B b) nm z)));
       remove-same = λ nm.
-          (outcome-answer (check B a) a _ (removeView B (view B a) nm) ∙ ap₂ checked ch (remove-alike B (view B a) (view B b) al nm) ∙ sym (outcome-answer (check B b) b _ (removeView B (view B b) nm)));
+          (outcome-answer (check B a) a _ (removeView B (view B a) nm) ∙ ap₂ (λ (f : Verdict) (x : Answer). checked f refused x) ch (remove-alike B (view B a) (view B b) al nm) ∙ sym (outcome-answer (check B b) b _ (removeView B (view B b) nm)));
       read-same = λ h o buf. read-alike B size-ok a b same al ch h o buf;
       write-same = λ h o buf.
-          (outcome-answer (check B a) a _ (transferView B (view B a) h o (length buf)) ∙ ap₂ checked ch (transfer-alike B (view B a) (view B b) al h o (length buf)) ∙ sym (outcome-answer (check B b) b _ (transferView B (view B b) h o (length buf))));
-      list-same = λ s. ap₂ checked ch (list-alike B (view B a) (view B b) al s);
-      free-same = ap₂ checked ch (ap (λ (x : ℕ). value (B * x)) (room-alike B (view B a) (view B b) al));
+          (outcome-answer (check B a) a _ (transferView B (view B a) h o (length buf)) ∙ ap₂ (λ (f : Verdict) (x : Answer). checked f refused x) ch (transfer-alike B (view B a) (view B b) al h o (length buf)) ∙ sym (outcome-answer (check B b) b _ (transferView B (view B b) h o (length buf))));
+      list-same = λ s. ap₂ (λ (f : Verdict) (x : Answer). checked f refused x) ch (list-alike B (view B a) (view B b) al s);
+      free-same = ap₂ (λ (f : Verdict) (x : Answer). checked f refused x) ch (ap (λ (x : ℕ). value (B * x)) (room-alike B (view B a) (view B b) al));
     }
   where
     al : Alike B (view B a) (view B b)

@@ -15,7 +15,7 @@ use Rattle.tfs_spec.specs.Layout.{slots}
 use Rattle.tfs_spec.specs.View.{View, view, inode, size, slotWith, place, content}
 use Rattle.tfs_spec.specs.Check.{Verdict, consistent, broken, check}
 use Rattle.tfs_spec.specs.Consistent.{File, Sound}
-use Rattle.tfs_spec.specs.Requests.{Answer, value, refused, granted, checkedFilled, counted, transferView, readBuffer, read}
+use Rattle.tfs_spec.specs.Requests.{Answer, value, refused, granted, counted, transferView, readBuffer, read, checked, refuseFilled}
 use Rattle.tfs_facts.specs.Names.{handle-hit, handle-is}
 use Rattle.tfs_laws.specs.Creates.{value-step, same-value}
 
@@ -94,11 +94,11 @@ pub record ReadLaw (B : ℕ) (img : List ℕ) (h o : ℕ) (buf : List ℕ) (c : 
   pub transfer : Transfer B (view B img) h o (length buf) c
   pub buffer : read B img h o buf .buffer ≡ take c (drop o (content B (view B img) img (slotWith B (view B img) h))) ++ drop c buf
 
-read-granted : (verdict : Verdict) (a : Answer) (full buf : List ℕ) (c : ℕ) → checkedFilled verdict buf (record { answer = a; buffer = cond (granted a) full buf }) .answer ≡ value c → (a ≡ value c) × (checkedFilled verdict buf (record { answer = a; buffer = cond (granted a) full buf }) .buffer ≡ full)
+read-granted : (verdict : Verdict) (a : Answer) (full buf : List ℕ) (c : ℕ) → checked verdict (refuseFilled buf) (record { answer = a; buffer = cond (granted a) full buf }) .answer ≡ value c → (a ≡ value c) × (checked verdict (refuseFilled buf) (record { answer = a; buffer = cond (granted a) full buf }) .buffer ≡ full)
 read-granted consistent a full buf c e = (e, ap (λ (x : Answer). cond (granted x) full buf) e)
 read-granted (broken num p) a full buf c e = absurd (let z : _≡_ {A = ℕ} 0 1 = cc in omega arith)
 
-read-left : (verdict : Verdict) (a : Answer) (full buf : List ℕ) → T (not (granted (checkedFilled verdict buf (record { answer = a; buffer = cond (granted a) full buf }) .answer))) → checkedFilled verdict buf (record { answer = a; buffer = cond (granted a) full buf }) .buffer ≡ buf
+read-left : (verdict : Verdict) (a : Answer) (full buf : List ℕ) → T (not (granted (checked verdict (refuseFilled buf) (record { answer = a; buffer = cond (granted a) full buf }) .answer))) → checked verdict (refuseFilled buf) (record { answer = a; buffer = cond (granted a) full buf }) .buffer ≡ buf
 read-left consistent a full buf t = cond-no (granted a) full buf t
 read-left (broken num p) a full buf t = refl
 

@@ -18,7 +18,7 @@ use Rattle.tfs_spec.specs.View.{View, view, viewN, inodeAt, size as fileSize, n
 use Rattle.tfs_spec.specs.Check.{Verdict, consistent, broken, check, checkView, tooShort}
 use Rattle.tfs_spec.specs.Consistent.{Sound}
 use Rattle.tfs_facts.specs.CheckMeans.{check-means}
-use Rattle.tfs_spec.specs.Requests.{Answer, done, value, granted, Outcome, Filled, checked, checkedOutcome, checkedFilled, refuse, Store, stored, storeAll, formatStores, format, checkAnswer, openView, openAnswer, createStores, createView, create, removeStores, removeView, remove, counted, transferView, readBuffer, read, writeImage, write, listView, listAnswer, freeAnswer}
+use Rattle.tfs_spec.specs.Requests.{Answer, done, value, granted, Outcome, Filled, checked, refuse, Store, stored, storeAll, formatStores, format, checkAnswer, openView, openAnswer, createStores, createView, create, removeStores, removeView, remove, counted, transferView, readBuffer, read, writeImage, write, listView, listAnswer, freeAnswer, refuseFilled, refused}
 use Rattle.tfs_facts.specs.Sizes.{after-block, in-image, in-block}
 use Rattle.tfs_facts.specs.Views.{view-n}
 use Rattle.tfs_laws.specs.Places.{blocks-eq, filesOf, position}
@@ -180,7 +180,7 @@ agree-bytes at end (x ∷ bs) a b o low la lb same =
     (rw length-set la) (rw length-set lb) (agree-set end a b (at o) x (low o (omega arith) (omega arith)) la lb same)
 
 -- an answer does not tell the image
-outcome-answer : (x : Verdict) (img : List ℕ) (o : Outcome) → checkedOutcome x img o .answer ≡ checked x (o .answer)
+outcome-answer : (x : Verdict) (img : List ℕ) (o : Outcome) → checked x (refuse img) o .answer ≡ checked x refused (o .answer)
 outcome-answer consistent img o = refl
 outcome-answer (broken num p) img o = refl
 
@@ -261,7 +261,7 @@ module _ {B : ℕ} (size : BlockSize B) (a b : List ℕ) (same : SameVolume B a 
       (length-storeAll B xs a (fits-up B end (length a) end-a xs f)) (length-storeAll B xs b (fits-up B end (length b) (volume-end B b) xs f))
       (agree-stores B end xs a b f end-a (volume-end B b) agree)
 
-  same-outcome : (verdict : Verdict) (x : Answer) (xs : List Store) → (verdict ≡ consistent → T (granted x) → Fits B end xs) → SameVolume B (checkedOutcome verdict a (stored B a x xs) .image) (checkedOutcome verdict b (stored B b x xs) .image)
+  same-outcome : (verdict : Verdict) (x : Answer) (xs : List Store) → (verdict ≡ consistent → T (granted x) → Fits B end xs) → SameVolume B (checked verdict (refuse a) (stored B a x xs) .image) (checked verdict (refuse b) (stored B b x xs) .image)
   same-outcome consistent x xs f = go (granted x) (λ e. f refl e)
     where
       go : (g : Bool) → (T g → Fits B end xs) → SameVolume B (cond g (storeAll B a xs) a) (cond g (storeAll B b xs) b)
@@ -282,7 +282,7 @@ module _ {B : ℕ} (size : BlockSize B) (a b : List ℕ) (same : SameVolume B a 
   unfolding create
   create-same nm sz =
       subst (λ (x : List ℕ). SameVolume B x (create B b nm sz .image))
-      (sym (alike (λ (x : Verdict) (v : View). checkedOutcome x a (stored B a (createView B v nm sz) (createStores B v nm sz)) .image) (λ num p v w. refl)))
+      (sym (alike (λ (x : Verdict) (v : View). checked x (refuse a) (stored B a (createView B v nm sz) (createStores B v nm sz)) .image) (λ num p v w. refl)))
       (same-outcome (check B b) (createView B (view B b) nm sz) (createStores B (view B b) nm sz)
       (λ e g. create-fits size b nm sz e (create-grant B (view B b) nm sz g)))
 
@@ -290,19 +290,19 @@ module _ {B : ℕ} (size : BlockSize B) (a b : List ℕ) (same : SameVolume B a 
   unfolding remove
   remove-same nm =
       subst (λ (x : List ℕ). SameVolume B x (remove B b nm .image))
-      (sym (alike (λ (x : Verdict) (v : View). checkedOutcome x a (stored B a (removeView B v nm) (removeStores B v nm)) .image) (λ num p v w. refl)))
+      (sym (alike (λ (x : Verdict) (v : View). checked x (refuse a) (stored B a (removeView B v nm) (removeStores B v nm)) .image) (λ num p v w. refl)))
       (same-outcome (check B b) (removeView B (view B b) nm) (removeStores B (view B b) nm)
       (λ e g. remove-fits B size b (check-means B size b .0 e) nm (remove-granted B b e nm (subst (λ (o : Outcome). T (granted (o .answer))) (sym (remove-is B b e nm)) g))))
 
   module _ (h o : ℕ) (buf : List ℕ) where
     abbrev written : List ℕ → Verdict → View → Outcome
     written img x v =
-        checkedOutcome x img
+        checked x (refuse img)
         (record { answer = transferView B v h o (length buf); image = cond (granted (transferView B v h o (length buf))) (writeImage B v img (slotWith B v h) o buf) img })
 
     abbrev filled : List ℕ → Verdict → View → Filled
     filled img x v =
-        checkedFilled x buf
+        checked x (refuseFilled buf)
         (record { answer = transferView B v h o (length buf); buffer = cond (granted (transferView B v h o (length buf))) (readBuffer B v img (slotWith B v h) o buf) buf })
 
     -- a position that a transfer reaches is one of its file
@@ -362,9 +362,9 @@ module _ {B : ℕ} (size : BlockSize B) (a b : List ℕ) (same : SameVolume B a 
       after img = record { answer = done; image = storeAll B img (formatStores B label) }
 
       formatted : List ℕ → Bool → Outcome
-      formatted img x = cond x (refuse img 1) (cond (not (labelAllowed label)) (refuse img 8) (after img))
+      formatted img x = cond x (refuse img 1 0) (cond (not (labelAllowed label)) (refuse img 8 0) (after img))
 
-      still : (x y : Bool) → cond x (refuse a 1) (cond y (refuse a 8) (after a)) .answer ≡ cond x (refuse b 1) (cond y (refuse b 8) (after b)) .answer
+      still : (x y : Bool) → cond x (refuse a 1 0) (cond y (refuse a 8 0) (after a)) .answer ≡ cond x (refuse b 1 0) (cond y (refuse b 8 0) (after b)) .answer
       still true y = refl
       still false true = refl
       still false false = refl
@@ -375,22 +375,22 @@ module _ {B : ℕ} (size : BlockSize B) (a b : List ℕ) (same : SameVolume B a 
   tail-unread =
       record {
         format-answer = format-alike;
-        check-answer = alike (λ (x : Verdict) (v : View). checked x done) (λ num p v w. refl);
-        open-answer = λ nm. alike (λ (x : Verdict) (v : View). checked x (openView B v nm)) (λ num p v w. refl);
+        check-answer = alike (λ (x : Verdict) (v : View). checked x refused done) (λ num p v w. refl);
+        open-answer = λ nm. alike (λ (x : Verdict) (v : View). checked x refused (openView B v nm)) (λ num p v w. refl);
         create-answer = λ nm sz.
             (outcome-answer (check B a) a (stored B a (createView B (view B a) nm sz) (createStores B (view B a) nm sz))
-            ∙ alike (λ (x : Verdict) (v : View). checked x (createView B v nm sz)) (λ num p v w. refl)
+            ∙ alike (λ (x : Verdict) (v : View). checked x refused (createView B v nm sz)) (λ num p v w. refl)
             ∙ sym (outcome-answer (check B b) b (stored B b (createView B (view B b) nm sz) (createStores B (view B b) nm sz))));
         remove-answer = λ nm.
             (outcome-answer (check B a) a (stored B a (removeView B (view B a) nm) (removeStores B (view B a) nm))
-            ∙ alike (λ (x : Verdict) (v : View). checked x (removeView B v nm)) (λ num p v w. refl)
+            ∙ alike (λ (x : Verdict) (v : View). checked x refused (removeView B v nm)) (λ num p v w. refl)
             ∙ sym (outcome-answer (check B b) b (stored B b (removeView B (view B b) nm) (removeStores B (view B b) nm))));
         write-answer = λ h o buf.
             (outcome-answer (check B a) a _
-            ∙ alike (λ (x : Verdict) (v : View). checked x (transferView B v h o (length buf))) (λ num p v w. refl)
+            ∙ alike (λ (x : Verdict) (v : View). checked x refused (transferView B v h o (length buf))) (λ num p v w. refl)
             ∙ sym (outcome-answer (check B b) b _));
-        list-answer = λ s. alike (λ (x : Verdict) (v : View). checked x (listView B v s)) (λ num p v w. refl);
-        free-answer = alike (λ (x : Verdict) (v : View). checked x (value (B * freeBlocks v))) (λ num p v w. refl);
+        list-answer = λ s. alike (λ (x : Verdict) (v : View). checked x refused (listView B v s)) (λ num p v w. refl);
+        free-answer = alike (λ (x : Verdict) (v : View). checked x refused (value (B * freeBlocks v))) (λ num p v w. refl);
         read-outcome = read-same;
         formatted = format-same;
         created = create-same;

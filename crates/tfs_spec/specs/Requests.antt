@@ -38,22 +38,17 @@ pub record Filled : Type 0 where
   pub answer : Answer
   pub buffer : List ℕ
 
--- "Refusals 8 to 15 have place 0"; "A refusal leaves the image and lent buffers unchanged"
-abbrev pub refuse : List ℕ → ℕ → Outcome
-refuse img num = record { answer = refused num 0; image = img }
+-- "A refusal leaves the image and lent buffers unchanged"
+abbrev pub refuse : List ℕ → ℕ → ℕ → Outcome
+refuse img num p = record { answer = refused num p; image = img }
 
--- "Every request but format runs the check first and gives its refusal"
-abbrev pub checked : Verdict → Answer → Answer
-checked consistent a = a
-checked (broken num p) a = refused num p
+abbrev pub refuseFilled : List ℕ → ℕ → ℕ → Filled
+refuseFilled buf num p = record { answer = refused num p; buffer = buf }
 
-abbrev pub checkedOutcome : Verdict → List ℕ → Outcome → Outcome
-checkedOutcome consistent img o = o
-checkedOutcome (broken num p) img o = record { answer = refused num p; image = img }
-
-abbrev pub checkedFilled : Verdict → List ℕ → Filled → Filled
-checkedFilled consistent buf f = f
-checkedFilled (broken num p) buf f = record { answer = refused num p; buffer = buf }
+-- "Every request but format runs the check first and gives its refusal": that refusal, or what the request's step gives
+abbrev pub checked : {A : Type 0} → Verdict → (ℕ → ℕ → A) → A → A
+checked consistent refusal step = step
+checked (broken num p) refusal step = refusal num p
 
 -- ---- whole-block stores, in order
 pub record Store : Type 0 where
@@ -79,12 +74,12 @@ formatStores B label =
 unfoldable pub format : ℕ → List ℕ → List ℕ → Outcome
 format B img label =
     let after : Outcome = record { answer = done; image = storeAll B img (formatStores B label) } in
-    cond (tooShort B img) (refuse img 1)
-    (cond (not (labelAllowed label)) (refuse img 8) after)
+    cond (tooShort B img) (refuse img 1 0)
+    (cond (not (labelAllowed label)) (refuse img 8 0) after)
 
 -- ---- check
 unfoldable pub checkAnswer : ℕ → List ℕ → Answer
-checkAnswer B img = checked (check B img) done
+checkAnswer B img = checked (check B img) refused done
 
 -- ---- open: 8, 13
 unfoldable pub openView : ℕ → View → List ℕ → Answer
@@ -93,8 +88,11 @@ openView B v nm =
     cond (not (nameAllowed nm)) (refused 8 0)
     (cond (not (ltb s (slots B))) (refused 13 0) (value (inode v s)))
 
+abbrev pub openStep : ℕ → List ℕ → List ℕ → Answer
+openStep B img nm = openView B (view B img) nm
+
 unfoldable pub openAnswer : ℕ → List ℕ → List ℕ → Answer
-openAnswer B img nm = checked (check B img) (openView B (view B img) nm)
+openAnswer B img nm = checked (check B img) refused (openStep B img nm)
 
 -- ---- create: 8, 9, 10, 11, 12
 -- the free blocks from k on among the next d, rising
@@ -138,10 +136,11 @@ createView B v nm sz =
 abbrev pub stored : ℕ → List ℕ → Answer → List Store → Outcome
 stored B img a xs = record { answer = a; image = cond (granted a) (storeAll B img xs) img }
 
+abbrev pub createStep : ℕ → List ℕ → List ℕ → ℕ → Outcome
+createStep B img nm sz = stored B img (createView B (view B img) nm sz) (createStores B (view B img) nm sz)
+
 unfoldable pub create : ℕ → List ℕ → List ℕ → ℕ → Outcome
-create B img nm sz =
-    let v : View = view B img in
-    checkedOutcome (check B img) img (stored B img (createView B v nm sz) (createStores B v nm sz))
+create B img nm sz = checked (check B img) (refuse img) (createStep B img nm sz)
 
 -- ---- remove: 8, 13
 -- "clears the bits of inode and content, zeros the 20 bytes of the slot": directory, map
@@ -157,10 +156,11 @@ removeView B v nm =
     cond (not (nameAllowed nm)) (refused 8 0)
     (cond (not (ltb (slotOf B v nm) (slots B))) (refused 13 0) done)
 
+abbrev pub removeStep : ℕ → List ℕ → List ℕ → Outcome
+removeStep B img nm = stored B img (removeView B (view B img) nm) (removeStores B (view B img) nm)
+
 unfoldable pub remove : ℕ → List ℕ → List ℕ → Outcome
-remove B img nm =
-    let v : View = view B img in
-    checkedOutcome (check B img) img (stored B img (removeView B v nm) (removeStores B v nm))
+remove B img nm = checked (check B img) (refuse img) (removeStep B img nm)
 
 -- ---- read and write: 14, 15
 -- "count = smaller of buffer length and size − offset"
@@ -180,23 +180,27 @@ readBuffer B v img s o buf =
     let c : ℕ = counted v s o (length buf) in
     table (λ p. getD img (place B v s p) 0) o c ++ drop c buf
 
-unfoldable pub read : ℕ → List ℕ → ℕ → ℕ → List ℕ → Filled
-read B img h o buf =
+abbrev pub readStep : ℕ → List ℕ → ℕ → ℕ → List ℕ → Filled
+readStep B img h o buf =
     let v : View = view B img in
     let a : Answer = transferView B v h o (length buf) in
-    checkedFilled (check B img) buf
-    (record { answer = a; buffer = cond (granted a) (readBuffer B v img (slotWith B v h) o buf) buf })
+    record { answer = a; buffer = cond (granted a) (readBuffer B v img (slotWith B v h) o buf) buf }
+
+unfoldable pub read : ℕ → List ℕ → ℕ → ℕ → List ℕ → Filled
+read B img h o buf = checked (check B img) (refuseFilled buf) (readStep B img h o buf)
 
 -- "Write changes only those content bytes"
 unfoldable pub writeImage : ℕ → View → List ℕ → ℕ → ℕ → List ℕ → List ℕ
 writeImage B v img s o buf = storeAt (place B v s) img o (take (counted v s o (length buf)) buf)
 
-unfoldable pub write : ℕ → List ℕ → ℕ → ℕ → List ℕ → Outcome
-write B img h o buf =
+abbrev pub writeStep : ℕ → List ℕ → ℕ → ℕ → List ℕ → Outcome
+writeStep B img h o buf =
     let v : View = view B img in
     let a : Answer = transferView B v h o (length buf) in
-    checkedOutcome (check B img) img
-    (record { answer = a; image = cond (granted a) (writeImage B v img (slotWith B v h) o buf) img })
+    record { answer = a; image = cond (granted a) (writeImage B v img (slotWith B v h) o buf) img }
+
+unfoldable pub write : ℕ → List ℕ → ℕ → ℕ → List ℕ → Outcome
+write B img h o buf = checked (check B img) (refuse img) (writeStep B img h o buf)
 
 -- ---- list: "slot over 24" is 14; "a free slot, or name, inode number and size"
 unfoldable pub listView : ℕ → View → ℕ → Answer
@@ -204,9 +208,15 @@ listView B v s =
     cond (not (ltb s (slots B))) (refused 14 0)
     (cond (free v s) unused (file (name v s) (inode v s) (size v s)))
 
+abbrev pub listStep : ℕ → List ℕ → ℕ → Answer
+listStep B img s = listView B (view B img) s
+
 unfoldable pub listAnswer : ℕ → List ℕ → ℕ → Answer
-listAnswer B img s = checked (check B img) (listView B (view B img) s)
+listAnswer B img s = checked (check B img) refused (listStep B img s)
 
 -- ---- free bytes: "512 times the zero bits below N"
+abbrev pub freeStep : ℕ → List ℕ → Answer
+freeStep B img = value (B * freeBlocks (view B img))
+
 unfoldable pub freeAnswer : ℕ → List ℕ → Answer
-freeAnswer B img = checked (check B img) (value (B * freeBlocks (view B img)))
+freeAnswer B img = checked (check B img) refused (freeStep B img)

@@ -1,7 +1,7 @@
 -- `tfs_check` meets its contract: each case of the answer told as numbers.
 use borrow.Author.Needs.{needs}
 use mathlib.Core.Path.{ap, _∙_}
-use Rattle.tfs_spec.specs.Requests.{checked, done, checkAnswer}
+use Rattle.tfs_spec.specs.Requests.{checked, done, checkAnswer, refused}
 use Rattle.tfs_c.specs.Result.{result-is, checked-is}
 use Rattle.tfs_c.proofs.tfs_check.Statement.{statement}
 use Rattle.tfs_c.proofs.tfs_check.Tie as tie
@@ -17,7 +17,7 @@ of-checked-requires c κs = search needs
 -- src/lib.rt:73:1
 returns : tie.Need-returns
 unfolding checkAnswer
-returns c = result-is (c .of-checked .result) (c .of-checked .ensures) (checked-is (c .before .check .result) ∙ ap (λ v. checked v done) (c .before .check .ensures .0))
+returns c = result-is (c .of-checked .result) (c .of-checked .ensures) (checked-is (c .before .check .result) ∙ ap (λ v. checked v refused done) (c .before .check .ensures .0))
 
 pub tfs-check-spec : {M : Type 1} → statement M
 tfs-check-spec = tie.close (tie.spec check-requires of-checked-requires returns)
