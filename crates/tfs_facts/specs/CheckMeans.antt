@@ -18,7 +18,9 @@ use Rattle.list_laws.specs.Part.{length-part}
 use Rattle.tfs_spec.specs.Layout.{BlockSize, slots, numbers, maxSize, need, block, slot, slotInode, nameField, slotName, slotFree, nameFormed, slotUsed, magic, volumeName, inRange, mapBit, sameName}
 use Rattle.tfs_spec.specs.View.{View, viewN, view, free, used, inode, name, size, number}
 use Rattle.tfs_spec.specs.Check.{Verdict, consistent, broken, found, tooShort, badMagic, badLabel, repeats, badSlot, badNumber, badInode, claims, times, claimedTwice, badBit, checkView, check}
-use Rattle.tfs_spec.specs.Consistent.{File, Owner, inodeOf, contentOf, Owns, Owned, Inside, Named, Sound, Consistent, WrongNumber, Broken, short, unmagical, unlabelled, malformed, repeated, oversized, misnumbered, twice, unmarked, stray, FirstBroken}
+use Rattle.tfs_spec.specs.Offsets.{numberAt}
+use Rattle.tfs_facts.specs.Raw.{head-number, label-byte}
+use Rattle.tfs_spec.specs.Consistent.{File, Owner, inodeOf, contentOf, Owns, Owned, Inside, Sound, Consistent, WrongNumber, Broken, short, unmagical, unlabelled, malformed, repeated, oversized, misnumbered, twice, unmarked, stray, FirstBroken}
 use Rattle.tfs_facts.specs.Claims.{owned-claimed, claimed-owned, owners-twice, twice-owners}
 
 -- ---- a rule in the order of rules
@@ -87,6 +89,13 @@ pub range-in : (v : View) (b : ℕ) → Inside v b → T (inRange (v .n) b)
 range-in v b h = and-of (leb 3 b) (ltb b (v .n)) (le→leb 3 b (h .low)) (lt→ltb b (v .n) (h .high))
 
 -- ---- what the tests on a slot say, with no search
+-- "name of 1 to 15 bytes, then zeros to the end": the 16 bytes f hold a name of k bytes
+pub record Named (f : List ℕ) (k : ℕ) : Type 0 where
+  pub some : 1 ≤ k
+  pub short : k ≤ 15
+  pub bytes : (i : ℕ) → i < k → getD f i 0 ≢ 0
+  pub zeros : (i : ℕ) → k ≤ i → i ≤ 15 → getD f i 0 ≡ 0
+
 -- a field that holds a name of k bytes has its first zero there
 module _ (f : List ℕ) (k : ℕ) (e : length f ≡ 16) (h : Named f k) where
   named-end : firstZero f ≡ k
@@ -321,13 +330,16 @@ module _ (B : ℕ) (img : List ℕ) where
   unfolding check
   rule1 = rule-whole (Broken B img 1) 1 _ (tooShort B img) bad1 yes1
 
-  bad2 : T (badMagic (view B img)) → Broken B img 2 0
-  unfolding badMagic
-  bad2 t = unmagical (λ e. T-not (eqb (word (view B img .head) 0) magic) t (eqb-of e))
+  four : BlockSize B → word (view B img .head) 0 ≡ numberAt img 0
+  four sz = head-number B img (omega (arith, sz .large))
 
-  yes2 : (q : ℕ) → Broken B img 2 q → T (badMagic (view B img))
+  bad2 : BlockSize B → T (badMagic (view B img)) → Broken B img 2 0
   unfolding badMagic
-  yes2 _ (unmagical h) = neqb-of (word (view B img .head) 0) magic h
+  bad2 sz t = unmagical (λ e. T-not (eqb (word (view B img .head) 0) magic) t (eqb-of (four sz ∙ e)))
+
+  yes2 : BlockSize B → (q : ℕ) → Broken B img 2 q → T (badMagic (view B img))
+  unfolding badMagic
+  yes2 sz _ (unmagical h) = neqb-of (word (view B img .head) 0) magic (λ e. h (sym (four sz) ∙ e))
 
   long : (Broken B img 1 0 → ⊥) → 3 * B ≤ length img
   long f = elim (decLe (3 * B) (length img)) [ yes h ↦ h | no h ↦ absurd (f (short (omega arith))) ]
@@ -339,13 +351,18 @@ module _ (B : ℕ) (img : List ℕ) where
   length-label : BlockSize B → 3 * B ≤ length img → length (volumeName (view B img .head)) ≡ 16
   length-label sz h = length-part 4 16 (view B img .head) (omega (arith, sz .large, length-head h))
 
+  label-test : T (leb 16 (firstZero (volumeName (view B img .head)))) → T (badLabel (view B img))
+  unfolding badLabel
+  label-test t = t
+
   bad3 : BlockSize B → 3 * B ≤ length img → T (badLabel (view B img)) → Broken B img 3 0
   unfolding badLabel
-  bad3 sz h t = unlabelled (label-bad (volumeName (view B img .head)) (length-label sz h) t)
+  bad3 sz h t = unlabelled (λ i l z. label-bad (volumeName (view B img .head)) (length-label sz h) t i l (label-byte B img (omega (arith, sz .large)) i l ∙ z))
 
   yes3 : BlockSize B → 3 * B ≤ length img → (q : ℕ) → Broken B img 3 q → T (badLabel (view B img))
   unfolding badLabel
-  yes3 sz h _ (unlabelled f) = label-yes (volumeName (view B img .head)) (length-label sz h) f
+  yes3 sz h _ (unlabelled f) =
+      label-yes (volumeName (view B img .head)) (length-label sz h) (λ i l z. f i l (sym (label-byte B img (omega (arith, sz .large)) i l) ∙ z))
 
   bad4 : (s : ℕ) → s < slots B → T (badSlot (view B img) s) → Broken B img 4 s
   unfolding badSlot
@@ -408,7 +425,7 @@ module _ (B : ℕ) (img : List ℕ) where
   unfolding checkView
   check-says sz =
       then 1 _ _ (λ _. rule1)
-      (then 2 _ _ (λ _. rule-whole (Broken B img 2) 2 _ (badMagic (view B img)) bad2 yes2)
+      (then 2 _ _ (λ _. rule-whole (Broken B img 2) 2 _ (badMagic (view B img)) (bad2 sz) (yes2 sz))
       (then 3 _ _
       (λ before.
       let l : 3 * B ≤ length img = long (before 1 0 (omega arith)) in
@@ -474,16 +491,17 @@ module _ (B : ℕ) (img : List ℕ) where
       λ w. by-test (mapBit (view B img .map) b) (λ m. m) (λ m. absurd (none 7 b (unmarked b l (T-not (mapBit (view B img .map) b) m) w))),
     )
 
-    labelled : (i : ℕ) × (i < 16) × (getD (volumeName (view B img .head)) i 0 ≡ 0)
+    labelled : (i : ℕ) × (i < 16) × (getD img (4 + i) 0 ≡ 0)
     labelled =
         let l : List ℕ = volumeName (view B img .head) in
         let e : length l ≡ 16 = length-label sz (long (none 1 0)) in
-        by-test (leb 16 (firstZero l)) (λ t. absurd (none 3 0 (unlabelled (label-bad l e t)))) (label-zero l e)
+        by-test (leb 16 (firstZero l)) (λ t. absurd (none 3 0 (bad3 sz (long (none 1 0)) (label-test t))))
+        (λ t. let z = label-zero l e t in (z .0, z .1, sym (label-byte B img (omega (arith, sz .large)) (z .0) (z .1)) ∙ z .2))
 
     consistent-of : Consistent B img
     consistent-of = record {
       long = long (none 1 0);
-      magical = elim (ℕ-discrete (word (view B img .head) 0) magic) [ yes e ↦ e | no e ↦ absurd (none 2 0 (unmagical e)) ];
+      magical = elim (ℕ-discrete (numberAt img 0) 3745) [ yes e ↦ e | no e ↦ absurd (none 2 0 (unmagical e)) ];
       labelled = labelled;
       sound = record { formed = formed; apart = apart; small = small; inside = inside; rest = rest; once = once; mapped = mapped };
     }

@@ -17,16 +17,9 @@ use Rattle.tfs_spec.specs.Layout.{BlockSize, slots, need, blocks, mapBit}
 use Rattle.tfs_spec.specs.View.{View, viewN, view, free, inode, size, number, freeBlocks}
 use Rattle.tfs_spec.specs.Check.{fileClaims, claimsTo, claims, times}
 use Rattle.tfs_spec.specs.Consistent.{Inside, Sound, Consistent}
+use Rattle.tfs_spec.specs.Effects.{inodeCount, contentCount}
 use Rattle.tfs_facts.specs.Claims.{claimed-owned, owned-claimed, twice-owners}
 use Rattle.tfs_facts.specs.CheckMeans.{owns-inside}
-
--- inodes, counted from the directory
-abbrev pub inodeCount : ℕ → View → ℕ
-inodeCount B v = sum (λ s. cond (free v s) 0 1) (slots B)
-
--- content blocks, counted from the directory and the inodes
-abbrev pub contentCount : ℕ → View → ℕ
-contentCount B v = sum (λ s. cond (free v s) 0 (need B (size v s))) (slots B)
 
 -- ---- the claims, counted by block and by file
 sum-times : (xs : List ℕ) (n : ℕ) → ((x : ℕ) → 1 ≤ times x xs → x < n) → sum (λ b. times b xs) n ≡ length xs

@@ -1,17 +1,15 @@
 -- What a consistent volume is, in plain facts; and what it is for each rule to be broken at a place.
--- Of a slot it says `free`, `used`, `name` and `sameName`, and `used` and `name` look for the zero that ends the name:
--- CheckMeans.antt gives all four as plain facts with no search (free-means, used-means, name-means, same-means).
--- CheckMeans.antt proves that the check grants exactly the consistent volumes, and gives exactly the first broken rule at its lowest place.
+-- What `free`, `used`, `name`, `size` and `number` read in the image is said in Offsets.antt; that the check grants exactly these volumes in Answers.antt.
 use mathlib.Core.Path.{_≡_}
 use mathlib.Core.Logic.{_⊎_, _≢_, _↔_}
 use mathlib.Core.Bool.{not}
-use Prim.Native.Nat.{ℕ, _*_, _≤_, _<_}
+use Prim.Native.Nat.{ℕ, _+_, _*_, _≤_, _<_}
 use mathlib.Core.List.{List}
 use lib.ListN.{length, getD}
 use lib.Dec.{T}
-use Rattle.lists.specs.Lists.{word}
-use Rattle.tfs_spec.specs.Layout.{slots, numbers, maxSize, need, magic, volumeName, mapBit, sameName}
+use Rattle.tfs_spec.specs.Layout.{slots, numbers, maxSize, need, mapBit, sameName}
 use Rattle.tfs_spec.specs.View.{View, view, free, used, inode, name, size, number}
+use Rattle.tfs_spec.specs.Offsets.{numberAt}
 
 -- slot s holds a file
 pub record File (B : ℕ) (v : View) (s : ℕ) : Type 0 where
@@ -35,13 +33,6 @@ pub record Inside (v : View) (b : ℕ) : Type 0 where
   pub low : 3 ≤ b
   pub high : b < v .n
 
--- "name of 1 to 15 bytes, then zeros to the end": the 16 bytes f hold a name of k bytes
-pub record Named (f : List ℕ) (k : ℕ) : Type 0 where
-  pub some : 1 ≤ k
-  pub short : k ≤ 15
-  pub bytes : (i : ℕ) → i < k → getD f i 0 ≢ 0
-  pub zeros : (i : ℕ) → k ≤ i → i ≤ 15 → getD f i 0 ≡ 0
-
 pub record Sound (B : ℕ) (v : View) : Type 0 where
   -- each slot is free or used
   pub formed : (s : ℕ) → s < slots B → T (free v s) ⊎ T (used v s)
@@ -58,9 +49,10 @@ pub record Sound (B : ℕ) (v : View) : Type 0 where
 
 pub record Consistent (B : ℕ) (img : List ℕ) : Type 0 where
   pub long : 3 * B ≤ length img
-  pub magical : word (view B img .head) 0 ≡ magic
-  -- a zero among the 16 volume name bytes
-  pub labelled : (i : ℕ) × (i < 16) × (getD (volumeName (view B img .head)) i 0 ≡ 0)
+  -- "magic 3745 in bytes 0..3"
+  pub magical : numberAt img 0 ≡ 3745
+  -- a zero among the 16 volume name bytes, 4..19
+  pub labelled : (i : ℕ) × (i < 16) × (getD img (4 + i) 0 ≡ 0)
   pub sound : Sound B (view B img)
 
 -- ---- each rule broken at a place
@@ -70,8 +62,8 @@ WrongNumber B v s k = ((k < need B (size v s)) × (Inside v (number v s k) → �
 
 pub data Broken (B : ℕ) (img : List ℕ) : ℕ → ℕ → Type 0 where
   short : length img < 3 * B → Broken B img 1 0
-  unmagical : word (view B img .head) 0 ≢ magic → Broken B img 2 0
-  unlabelled : ((i : ℕ) → i < 16 → getD (volumeName (view B img .head)) i 0 ≢ 0) → Broken B img 3 0
+  unmagical : numberAt img 0 ≢ 3745 → Broken B img 2 0
+  unlabelled : ((i : ℕ) → i < 16 → getD img (4 + i) 0 ≢ 0) → Broken B img 3 0
   malformed : (s : ℕ) → File B (view B img) s → (T (used (view B img) s) → ⊥) → Broken B img 4 s
   repeated : (s t : ℕ) → File B (view B img) s → File B (view B img) t → t < s → T (sameName (name (view B img) t) (name (view B img) s)) → Broken B img 4 s
   oversized : (s : ℕ) → File B (view B img) s → maxSize B < size (view B img) s → Broken B img 5 s

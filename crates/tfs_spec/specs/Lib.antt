@@ -1,5 +1,10 @@
 pub mod Layout
 pub mod View
 pub mod Check
-pub mod Consistent
 pub mod Requests
+pub mod Offsets
+pub mod Consistent
+pub mod Answers
+pub mod Effects
+pub mod Handles
+pub mod Laws

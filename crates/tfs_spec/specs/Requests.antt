@@ -220,3 +220,57 @@ freeStep B img = value (B * freeBlocks (view B img))
 
 unfoldable pub freeAnswer : ℕ → List ℕ → Answer
 freeAnswer B img = checked (check B img) refused (freeStep B img)
+
+-- ---- requests as values
+-- those that change a volume
+pub data Change : Type 0 where
+  -- name and size
+  creates : List ℕ → ℕ → Change
+  -- name
+  removes : List ℕ → Change
+  -- handle, offset and bytes
+  writes : ℕ → ℕ → List ℕ → Change
+
+unfoldable pub perform : ℕ → List ℕ → Change → Outcome
+perform B img (creates nm z) = create B img nm z
+perform B img (removes nm) = remove B img nm
+perform B img (writes h o bs) = write B img h o bs
+
+-- every request but format
+pub data Request : Type 0 where
+  changes : Change → Request
+  checks : Request
+  opens : List ℕ → Request
+  -- handle, offset and buffer
+  reads : ℕ → ℕ → List ℕ → Request
+  lists : ℕ → Request
+  counts : Request
+
+-- what a request answers, and the image and the buffer that it leaves; no buffer is []
+pub record Reply : Type 0 where
+  pub answer : Answer
+  pub image : List ℕ
+  pub buffer : List ℕ
+
+-- the buffer that a request lends for writing
+abbrev pub lent : Request → List ℕ
+lent (changes c) = []
+lent checks = []
+lent (opens nm) = []
+lent (reads h o buf) = buf
+lent (lists s) = []
+lent counts = []
+
+-- check, open, list and free bytes take the image for reading only
+abbrev pub reply : ℕ → List ℕ → Request → Reply
+reply B img (changes c) = record { answer = perform B img c .answer; image = perform B img c .image; buffer = [] }
+reply B img checks = record { answer = checkAnswer B img; image = img; buffer = [] }
+reply B img (opens nm) = record { answer = openAnswer B img nm; image = img; buffer = [] }
+reply B img (reads h o buf) = record { answer = read B img h o buf .answer; image = img; buffer = read B img h o buf .buffer }
+reply B img (lists s) = record { answer = listAnswer B img s; image = img; buffer = [] }
+reply B img counts = record { answer = freeAnswer B img; image = img; buffer = [] }
+
+-- "each request gets the image the last one left"
+unfoldable pub afterAll : ℕ → List ℕ → List Change → List ℕ
+afterAll B img [] = img
+afterAll B img (c ∷ cs) = afterAll B (perform B img c .image) cs

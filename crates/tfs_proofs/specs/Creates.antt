@@ -24,12 +24,12 @@ use Rattle.tfs_facts.specs.Views.{view-n, view-map, view-dir, length-map, lengt
 use Rattle.tfs_facts.specs.Stores.{Fits, length-storeAll, stored-away, stored-first, storeAll-append, zero-fits, zero-away, zeroed, block-same, length-setBlock, byte-at}
 use Rattle.tfs_facts.specs.MapBits.{length-setBits, in-dec, in-at, at-in, mapped-all, Mapped, bits-kept, bits-set}
 use Rattle.tfs_facts.specs.Chosen.{CreateGrant, Picked, Choice, choice}
-use Rattle.tfs_laws.specs.Frame.{Frame, n-same, name-same, file-from, owns-to, owns-from}
+use Rattle.tfs_proofs.specs.Frame.{Frame, n-same, name-same, file-from, owns-to, owns-from}
 use Rattle.tfs_facts.specs.Names.{slot-miss, slot-is, free-hit, length-setSlot, slot-set, slot-unset}
-use Rattle.tfs_laws.specs.Others.{consistent-to, stands, formed-to, apart-to, small-to, inside-to, rest-to, contents-other}
-use Rattle.tfs_laws.specs.Removes.{low-inside, map-inside}
+use Rattle.tfs_proofs.specs.Others.{consistent-to, stands, formed-to, apart-to, small-to, inside-to, rest-to, contents-other}
+use Rattle.tfs_proofs.specs.Removes.{low-inside, map-inside}
 use Rattle.tfs_facts.specs.Entries.{Allowed, allowed, length-entry, entry-inode, entry-name, entry-taken, entry-used, length-inode, inode-size, inode-number, inode-rest}
-use Rattle.tfs_laws.specs.Ledger.{change, made}
+use Rattle.tfs_spec.specs.Effects.{change, made}
 
 -- a granted choice was not the refusal
 pub grant-step : (b : Bool) (num : ℕ) (a : Answer) → T (granted (cond b (refused num 0) a)) → T (not b) × T (granted a)
@@ -408,7 +408,7 @@ module _ (B : ℕ) (sz : BlockSize B) (img : List ℕ) (ok : Consistent B img) (
 
   pub create-consistent : Consistent B new
   create-consistent =
-      consistent-to B img new ok long′ (kept 0 (λ p. omega (arith, picked 0 p .inside .low)) (λ e. omega arith) (λ e. omega arith)) sound′
+      consistent-to B sz img new ok long′ (kept 0 (λ p. omega (arith, picked 0 p .inside .low)) (λ e. omega arith) (λ e. omega arith)) sound′
 
   zero-byte : (m r : ℕ) → m < length bs → r < B → getD new (getD bs m 0 * B + r) 0 ≡ 0
   zero-byte m r h l =

@@ -20,20 +20,11 @@ use Rattle.tfs_spec.specs.Check.{Verdict, consistent, broken, found, tooShort, 
 use Rattle.tfs_spec.specs.Requests.{Answer, value, refused, unused, file, granted, checked, readBuffer, openView, openAnswer, freeFrom, chosen, createView, create, removeView, remove, counted, transferView, read, write, listView, listAnswer, freeAnswer, refuse, refuseFilled}
 use Rattle.tfs_facts.specs.Views.{view-n, view-head, view-map, view-dir}
 use Rattle.tfs_spec.specs.Consistent.{Inside, Sound}
+use Rattle.tfs_spec.specs.Effects.{SameRead}
 use Rattle.tfs_facts.specs.CheckMeans.{check-means}
 use Rattle.tfs_facts.specs.Sizes.{in-block}
-use Rattle.tfs_laws.specs.Places.{blocks-eq, position}
+use Rattle.tfs_proofs.specs.Places.{blocks-eq, position}
 use Rattle.tfs_facts.specs.Stores.{block-byte}
-
--- two images of one length that differ at most in what the rules ignore
-pub record SameRead (B : ℕ) (a b : List ℕ) : Type 0 where
-  pub long : length a ≡ length b
-  -- magic and volume name
-  pub head : part 0 20 (block B a 0) ≡ part 0 20 (block B b 0)
-  pub bits : (i : ℕ) → i < blocks B a → mapBit (block B a 1) i ≡ mapBit (block B b 1) i
-  pub slots-same : (t : ℕ) → t < slots B → slot (block B a 2) t ≡ slot (block B b 2) t
-  -- the blocks from 3 to N − 1
-  pub rest : (i : ℕ) → 3 ≤ i → i < blocks B a → block B a i ≡ block B b i
 
 -- two views that differ at most so
 pub record Alike (B : ℕ) (v w : View) : Type 0 where

@@ -11,22 +11,30 @@ use lib.Dec.{T, ltb, lt→ltb}
 use lib.Arith.{le→nltb}
 use Rattle.list_laws.specs.Test.{cond-yes, cond-no}
 use Rattle.lists.specs.Lists.{word}
-use Rattle.tfs_spec.specs.Layout.{slots, block, sameName, need, maxSize, numbers, volumeName}
+use Rattle.tfs_spec.specs.Layout.{slots, block, sameName, need, maxSize, numbers, volumeName, BlockSize}
 use Rattle.tfs_spec.specs.View.{View, view, free, used, name, size, number, slotOf, content, contents}
 use Rattle.tfs_spec.specs.Consistent.{File, Inside, Sound, Consistent}
+use Rattle.tfs_facts.specs.Raw.{head-number, label-byte}
 use Rattle.tfs_facts.specs.Views.{view-head}
-use Rattle.tfs_laws.specs.Content.{standing, contents-at}
-use Rattle.tfs_laws.specs.Frame.{Frame, n-same, free-same, used-same, name-same, size-same, number-same, file-to, file-from, content-same}
+use Rattle.tfs_proofs.specs.Content.{standing, contents-at}
+use Rattle.tfs_proofs.specs.Frame.{Frame, n-same, free-same, used-same, name-same, size-same, number-same, file-to, file-from, content-same}
 use Rattle.tfs_facts.specs.Names.{slot-hit, slot-miss, slot-is}
 
 -- a sound view over the same block 0 makes a consistent volume
-pub consistent-to : (B : ℕ) (img new : List ℕ) → Consistent B img → length new ≡ length img → block B new 0 ≡ block B img 0 → Sound B (view B new) → Consistent B new
-consistent-to B img new ok long head sound =
+pub consistent-to : (B : ℕ) → BlockSize B → (img new : List ℕ) → Consistent B img → length new ≡ length img → block B new 0 ≡ block B img 0 → Sound B (view B new) → Consistent B new
+consistent-to B sz img new ok long head sound =
     let e : view B new .head ≡ view B img .head = view-head B new ∙ head ∙ sym (view-head B img) in
     record {
       long = subst (λ (n : ℕ). 3 * B ≤ n) (sym long) (ok .long);
-      magical = ap (λ (x : List ℕ). word x 0) e ∙ ok .magical;
-      labelled = (ok .labelled .0, ok .labelled .1, ap (λ (x : List ℕ). getD (volumeName x) (ok .labelled .0) 0) e ∙ ok .labelled .2);
+      magical = sym (head-number B new (omega (arith, sz .large))) ∙ ap (λ (x : List ℕ). word x 0) e ∙ head-number B img (omega (arith, sz .large)) ∙ ok .magical;
+      labelled = (
+        ok .labelled .0,
+        ok .labelled .1,
+        sym (label-byte B new (omega (arith, sz .large)) (ok .labelled .0) (ok .labelled .1))
+            ∙ ap (λ (x : List ℕ). getD (volumeName x) (ok .labelled .0) 0) e
+            ∙ label-byte B img (omega (arith, sz .large)) (ok .labelled .0) (ok .labelled .1)
+            ∙ ok .labelled .2,
+      );
       sound = sound;
     }
 

@@ -9,28 +9,9 @@ use lib.Dec.{T, leb, ltb}
 use Rattle.lists.specs.Lists.{zeros, table}
 use Rattle.tfs_spec.specs.Layout.{sameName}
 use Rattle.tfs_spec.specs.View.{Contents}
+use Rattle.tfs_spec.specs.Effects.{change}
 use Rattle.tfs_facts.specs.CheckMeans.{same-sym}
 use Rattle.tfs_facts.specs.Names.{name-trans}
-
--- what stands under a name becomes g of it
-abbrev pub change : List ℕ → (Option (List ℕ) → Option (List ℕ)) → Contents → Contents
-change k g c j = cond (sameName j k) (g (c j)) (c j)
-
--- create: zeros of the asked size
-abbrev pub made : ℕ → Option (List ℕ) → Option (List ℕ)
-made sz old = some (zeros sz)
-
--- remove
-abbrev pub gone : Option (List ℕ) → Option (List ℕ)
-gone old = none
-
--- bytes laid over a content from o on, as far as it reaches
-abbrev pub over : ℕ → List ℕ → List ℕ → List ℕ
-over o bs old = table (λ p. cond (leb o p && ltb p (o + length bs)) (getD bs (p - o) 0) (getD old p 0)) 0 (length old)
-
--- write
-abbrev pub wrote : ℕ → List ℕ → Option (List ℕ) → Option (List ℕ)
-wrote o bs = Option·map (over o bs)
 
 -- two changes at different names commute
 pub change-comm : (k m : List ℕ) (f g : Option (List ℕ) → Option (List ℕ)) (c : Contents) → (T (sameName k m) → ⊥) → (j : List ℕ) → change k f (change m g c) j ≡ change m g (change k f c) j

@@ -17,7 +17,7 @@ use Rattle.tfs_facts.specs.Claims.{slotIn}
 use Rattle.tfs_facts.specs.CheckMeans.{in-range}
 use Rattle.tfs_facts.specs.Sizes.{in-need, in-block}
 use Rattle.tfs_facts.specs.Views.{view-n, view-dir, inodes-at}
-use Rattle.tfs_laws.specs.Places.{blocks-eq, file-at}
+use Rattle.tfs_proofs.specs.Places.{blocks-eq, file-at}
 use Rattle.tfs_facts.specs.Stores.{block-byte}
 
 pub record Frame (B : ℕ) (img new : List ℕ) (s : ℕ) : Type 0 where

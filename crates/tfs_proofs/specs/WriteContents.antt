@@ -14,11 +14,11 @@ use Rattle.tfs_spec.specs.Layout.{slots, sameName}
 use Rattle.tfs_spec.specs.View.{View, view, name, size, slotOf, place, content, contents}
 use Rattle.tfs_spec.specs.Consistent.{File, Sound}
 use Rattle.tfs_facts.specs.CheckMeans.{same-sym}
-use Rattle.tfs_laws.specs.Content.{standing, contents-at, contents-in, standing-map, content-by}
-use Rattle.tfs_laws.specs.Writes.{put, effect, step, covers, covered, uncovered, Covered, step-byte}
-use Rattle.tfs_laws.specs.Places.{filesOf, laid, view-kept}
+use Rattle.tfs_proofs.specs.Content.{standing, contents-at, contents-in, standing-map, content-by}
+use Rattle.tfs_proofs.specs.Writes.{put, effect, step, covers, covered, uncovered, Covered, step-byte}
+use Rattle.tfs_proofs.specs.Places.{filesOf, laid, view-kept}
 use Rattle.tfs_facts.specs.Names.{slot-hit, slot-is}
-use Rattle.tfs_laws.specs.Ledger.{change, over, wrote}
+use Rattle.tfs_spec.specs.Effects.{change, over, wrote}
 
 module _ (B : ℕ) (pos : 0 < B) (img : List ℕ) (ok : Sound B (view B img)) (s : ℕ) (f : File B (view B img) s) (o : ℕ) (bs : List ℕ) where
   abbrev v : View

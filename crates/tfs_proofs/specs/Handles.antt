@@ -14,32 +14,23 @@ use Rattle.tfs_spec.specs.Layout.{BlockSize, slots, maxSize, need, nameAllowed}
 use Rattle.tfs_spec.specs.View.{View, view, inode, slotOf, slotWith, freeSlot, freeBlocks}
 use Rattle.tfs_spec.specs.Consistent.{inodeOf, Consistent}
 use Rattle.tfs_facts.specs.CheckMeans.{check-means}
-use Rattle.tfs_spec.specs.Requests.{Answer, value, refused, granted, Outcome, storeAll, openView, openAnswer, chosen, createView, createStores, create, removeStores, remove, transferView, read, write}
-use Rattle.tfs_laws.specs.Places.{owner-slot}
-use Rattle.tfs_laws.specs.WriteLists.{wr, request, request-answer}
-use Rattle.tfs_laws.specs.Frame.{inode-same, file-from}
+use Rattle.tfs_spec.specs.Requests.{Answer, value, refused, granted, Outcome, storeAll, openView, openAnswer, chosen, createView, createStores, create, removeStores, remove, transferView, read, write, creates, removes, perform}
+use Rattle.tfs_proofs.specs.Places.{owner-slot}
+use Rattle.tfs_proofs.specs.WriteLists.{wr, request-answer}
+use Rattle.tfs_spec.specs.Laws.{request}
+use Rattle.tfs_proofs.specs.Frame.{inode-same, file-from}
 use Rattle.tfs_facts.specs.Names.{slot-hit, handle-hit, handle-is}
-use Rattle.tfs_laws.specs.Creates.{value-step, same-value}
+use Rattle.tfs_proofs.specs.Creates.{value-step, same-value}
 use Rattle.tfs_facts.specs.Chosen.{CreateGrant}
-use Rattle.tfs_laws.specs.Creates as made
-use Rattle.tfs_laws.specs.Removes as removed
-use Rattle.tfs_laws.specs.CreateRemove.{at-slot, hit}
-use Rattle.tfs_laws.specs.Changes.{Passed, create-is, create-granted, create-image, remove-granted, remove-image, creates, removes, perform, changed, stays-consistent}
+use Rattle.tfs_proofs.specs.Creates as made
+use Rattle.tfs_proofs.specs.Removes as removed
+use Rattle.tfs_proofs.specs.CreateRemove.{at-slot, hit}
+use Rattle.tfs_proofs.specs.Changes.{Passed, create-is, create-granted, create-image, remove-granted, remove-image, changed, stays-consistent}
 
 -- ---- what a handle means
 -- the handle h means the file that stands under nm
 abbrev pub Means : ℕ → View → ℕ → List ℕ → Type 0
 Means B v h nm = (slotOf B v nm < slots B) × (slotWith B v h ≡ slotOf B v nm)
-
--- a handle that is no file's is refused by read and write
-pub record HandleRefused (B : ℕ) (img : List ℕ) (h : ℕ) : Type 0 where
-  pub on-transfer : (o len : ℕ) → transferView B (view B img) h o len ≡ refused 14 0
-  pub on-read : (o : ℕ) (buf : List ℕ) → read B img h o buf .answer ≡ refused 14 0
-  pub on-write : (o : ℕ) (buf : List ℕ) → write B img h o buf .answer ≡ refused 14 0
-
-pub no-handle : (B : ℕ) (v : View) (h : ℕ) → slots B ≤ slotWith B v h → (o len : ℕ) → transferView B v h o len ≡ refused 14 0
-unfolding transferView
-no-handle B v h l o len = cond-yes (not (ltb (slotWith B v h) (slots B))) (refused 14 0) _ (le→nltb (slotWith B v h) (slots B) l)
 
 -- on a consistent volume read and write answer as the transfer does
 pub read-answer : (B : ℕ) (img : List ℕ) → Passed B img → (h o : ℕ) (buf : List ℕ) → read B img h o buf .answer ≡ transferView B (view B img) h o (length buf)
@@ -49,14 +40,6 @@ read-answer B img passed h o buf = rw passed
 pub write-answer : (B : ℕ) (img : List ℕ) → Passed B img → (h o : ℕ) (buf : List ℕ) → write B img h o buf .answer ≡ transferView B (view B img) h o (length buf)
 unfolding request
 write-answer B img passed h o buf = request-answer B img passed (wr h o buf)
-
-pub handle-refused : (B : ℕ) (img : List ℕ) → Passed B img → (h : ℕ) → slots B ≤ slotWith B (view B img) h → HandleRefused B img h
-handle-refused B img passed h l =
-    record {
-      on-transfer = no-handle B (view B img) h l;
-      on-read = λ o buf. (read-answer B img passed h o buf ∙ no-handle B (view B img) h l o (length buf));
-      on-write = λ o buf. (write-answer B img passed h o buf ∙ no-handle B (view B img) h l o (length buf));
-    }
 
 module _ (B : ℕ) (sz : BlockSize B) (img : List ℕ) (ok : Consistent B img) where
   abbrev v : View
@@ -73,11 +56,6 @@ module _ (B : ℕ) (sz : BlockSize B) (img : List ℕ) (ok : Consistent B img) w
       let a13 = value-step (not (ltb (slotOf B v nm) (slots B))) 13 (value (inode v (slotOf B v nm))) h (a8 .1) in
       let l : slotOf B v nm < slots B = ltb→lt (slotOf B v nm) (slots B) (not-not (ltb (slotOf B v nm) (slots B)) (a13 .0)) in
       (l, handle-is B v h (ok .sound) (slotOf B v nm) (slot-hit B v nm l .0) (same-value (inode v (slotOf B v nm)) h (a13 .1)))
-
-  pub open-number : (nm : List ℕ) (h : ℕ) → openAnswer B img nm ≡ value h → inode v (slotOf B v nm) ≡ h
-  open-number nm h e =
-      let m : Means B v h nm = open-means nm h e in
-      ap (inode v) (sym (m .1)) ∙ handle-hit B v h (subst (λ (x : ℕ). x < slots B) (sym (m .1)) (m .0)) .1
 
   module _ (nm : List ℕ) (g : T (granted (remove B img nm .answer))) where
     abbrev s : ℕ
@@ -104,12 +82,6 @@ module _ (B : ℕ) (sz : BlockSize B) (img : List ℕ) (ok : Consistent B img) w
     removed-none =
         subst (λ (x : List ℕ). slots B ≤ slotWith B (view B x) (inode v s)) (sym (remove-image B img passed nm g))
         (elim (decLt (slotWith B w (inode v s)) (slots B)) [ yes l ↦ absurd (meant l) | no l ↦ omega arith ])
-
-    -- "A handle kept over a remove is refused"
-    pub removed-refused : HandleRefused B (remove B img nm .image) (inode v (slotOf B v nm))
-    unfolding perform
-    removed-refused =
-        handle-refused B (remove B img nm .image) (check-means B sz (remove B img nm .image) .1 (changed B sz img ok (removes nm) g .consistent)) (inode v s) removed-none
 
   module _ (nm : List ℕ) (z h : ℕ) (e : create B img nm z .answer ≡ value h) where
     yes-create : T (granted (create B img nm z .answer))
@@ -160,23 +132,3 @@ module _ (B : ℕ) (sz : BlockSize B) (img : List ℕ) (ok : Consistent B img) w
             (sym (inode-same B img new (freeSlot B v) (made.frame B sz img ok nm z gr) (slotWith B (view B new) k) y n) ∙ f .1)
             in
             omega arith
-
--- "A handle kept over a remove is refused, or means the new file if a create has taken that block as its inode":
--- the handle k of a removed file, in the image left by a create of nm that answered h
-pub record KeptHandle (B : ℕ) (img nm : List ℕ) (h k : ℕ) : Type 0 where
-  pub taken : k ≡ h → Means B (view B img) k nm
-  pub left : k ≢ h → HandleRefused B img k
-
-pub kept-handle : (B : ℕ) → BlockSize B → (img : List ℕ) → Consistent B img → (nm other : List ℕ) (z h : ℕ) → T (granted (remove B img nm .answer)) → create B (remove B img nm .image) other z .answer ≡ value h → KeptHandle B (create B (remove B img nm .image) other z .image) other h (inode (view B img) (slotOf B (view B img) nm))
-unfolding perform
-kept-handle B sz img ok nm other z h g e =
-    let mid : List ℕ = remove B img nm .image in
-    let end : List ℕ = create B mid other z .image in
-    let fine : Consistent B (remove B img nm .image) = changed B sz img ok (removes nm) g .consistent in
-    let k : ℕ = inode (view B img) (slotOf B (view B img) nm) in
-    record {
-      taken = λ p. subst (λ (x : ℕ). Means B (view B end) x other) (sym p) (created-handle B sz mid fine other z h e);
-      left = λ d.
-          handle-refused B end (check-means B sz end .1 (stays-consistent B sz mid fine (creates other z))) k
-          (created-none B sz mid fine other z h e k d (removed-none B sz img ok nm g));
-    }

@@ -18,14 +18,15 @@ use Rattle.tfs_spec.specs.Check.{fileClaims}
 use Rattle.tfs_spec.specs.Consistent.{Consistent}
 use Rattle.tfs_facts.specs.CheckMeans.{check-means}
 use Rattle.tfs_spec.specs.Requests.{Answer, done, refused, granted, Outcome, storeAll, create, createStores, chosen, removeView, removeStores, remove, stored}
+use Rattle.tfs_spec.specs.Laws.{BackLaw}
 use Rattle.tfs_facts.specs.Views.{view-dir, view-map, length-dir}
 use Rattle.tfs_facts.specs.MapBits.{in-at, Distinct, setBits-undo}
 use Rattle.tfs_facts.specs.Names.{slot-is, free-hit, claims-is, name-refl}
 use Rattle.tfs_facts.specs.Entries.{length-entry, allowed}
 use Rattle.tfs_facts.specs.Chosen.{CreateGrant, choice}
-use Rattle.tfs_laws.specs.Creates as made
-use Rattle.tfs_laws.specs.Removes as removed
-use Rattle.tfs_laws.specs.Changes.{Passed, create-granted, create-image, remove-is}
+use Rattle.tfs_proofs.specs.Creates as made
+use Rattle.tfs_proofs.specs.Removes as removed
+use Rattle.tfs_proofs.specs.Changes.{Passed, create-granted, create-image, remove-is}
 
 -- a list of zeros only
 zeros-is : (l : List ℕ) → T (allZero l) → l ≡ zeros (length l)
@@ -123,14 +124,6 @@ unfolding removeView
 remove-yes B v nm t h =
     cond-no (not (nameAllowed nm)) (refused 8 0) _ (yes-yes (nameAllowed nm) t)
     ∙ cond-no (not (ltb (slotOf B v nm) (slots B))) (refused 13 0) done (yes-yes (ltb (slotOf B v nm) (slots B)) (lt→ltb (slotOf B v nm) (slots B) h))
-
--- "A granted create, then a remove of that name, gives the directory and map back byte for byte"
-pub record BackLaw (B : ℕ) (img nm : List ℕ) (z : ℕ) : Type 0 where
-  -- the remove is granted
-  pub answer : remove B (create B img nm z .image) nm .answer ≡ done
-  -- "The map is block 1, the directory block 2"
-  pub map : block B (remove B (create B img nm z .image) nm .image) 1 ≡ block B img 1
-  pub directory : block B (remove B (create B img nm z .image) nm .image) 2 ≡ block B img 2
 
 pub back-law : (B : ℕ) → BlockSize B → (img : List ℕ) → Consistent B img → (nm : List ℕ) (z : ℕ) → T (granted (create B img nm z .answer)) → BackLaw B img nm z
 back-law B sz img ok nm z g =

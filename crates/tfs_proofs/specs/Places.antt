@@ -16,7 +16,7 @@ use Rattle.tfs_spec.specs.Consistent.{File, inodeOf, contentOf, Owns, Inside, S
 use Rattle.tfs_facts.specs.CheckMeans.{in-range}
 use Rattle.tfs_facts.specs.Sizes.{split-block, split-offset, rejoin, in-need, in-block, in-image}
 use Rattle.tfs_facts.specs.Views.{view-n, free-inode, has}
-use Rattle.tfs_laws.specs.Writes.{Put, Files, Laid, step, length-step, step-other}
+use Rattle.tfs_proofs.specs.Writes.{Put, Files, Laid, step, length-step, step-other}
 
 abbrev pub filesOf : ℕ → View → Files
 filesOf B v = record { size = λ s. size v s; place = λ s p. place B v s p }

@@ -11,25 +11,20 @@ use Rattle.tfs_spec.specs.Layout.{BlockSize, slots}
 use Rattle.tfs_spec.specs.View.{View, view, free, inode, name, slotOf, slotWith, freeSlot}
 use Rattle.tfs_spec.specs.Consistent.{Sound, Consistent}
 use Rattle.tfs_facts.specs.CheckMeans.{check-means}
-use Rattle.tfs_spec.specs.Requests.{Answer, value, granted, storeAll, createStores, create, removeStores, remove, write}
-use Rattle.tfs_laws.specs.Frame.{Frame, file-to, name-same, inode-same}
-use Rattle.tfs_laws.specs.WriteLists.{wr, request, request-view}
+use Rattle.tfs_spec.specs.Requests.{Answer, value, granted, storeAll, createStores, create, removeStores, remove, write, Change, creates, removes, writes, perform, afterAll}
+use Rattle.tfs_proofs.specs.Frame.{Frame, file-to, name-same, inode-same}
+use Rattle.tfs_proofs.specs.WriteLists.{wr, request-view}
+use Rattle.tfs_spec.specs.Laws.{request}
 use Rattle.tfs_facts.specs.Names.{free-hit}
 use Rattle.tfs_facts.specs.Chosen.{CreateGrant}
-use Rattle.tfs_laws.specs.Creates as made
-use Rattle.tfs_laws.specs.Removes as removed
-use Rattle.tfs_laws.specs.Changes.{Change, creates, removes, writes, perform, Passed, create-granted, create-image, remove-granted, remove-image, refused-keeps, stays-consistent}
-use Rattle.tfs_laws.specs.Handles.{Means, removed-none, created-none, created-handle}
-use Rattle.tfs_laws.specs.Grants.{Stands, stands-hit, stands-at, stands-removed, Handled, handled-hit, handled-at, handled-low, unhandled-high, CreateRule, unnamed, oversized, standing, full, cramped, created, grants}
-
--- ---- what a handle means, in plain facts
--- h is the inode number of the file that has the name nm
-abbrev pub MeansFile : ℕ → View → ℕ → List ℕ → Type 0
-MeansFile B v h nm = (s : ℕ) × Stands B v nm s × (inode v s ≡ h)
-
--- h is no file's inode number
-abbrev pub MeansNone : ℕ → View → ℕ → Type 0
-MeansNone B v h = (s : ℕ) → Handled B v h s → ⊥
+use Rattle.tfs_proofs.specs.Creates as made
+use Rattle.tfs_proofs.specs.Removes as removed
+use Rattle.tfs_proofs.specs.Changes.{Passed, create-granted, create-image, remove-granted, remove-image, refused-keeps, stays-consistent}
+use Rattle.tfs_proofs.specs.Handles.{Means, removed-none, created-none, created-handle}
+use Rattle.tfs_spec.specs.Answers.{Stands, Handled, CreateRule, unnamed, oversized, standing, full, cramped, created}
+use Rattle.tfs_spec.specs.Handles.{MeansFile, MeansNone, RemovesName, GivesHandle, NoneRemoves, NoneGives}
+use Rattle.tfs_proofs.specs.Grants.{stands-hit, stands-at, stands-removed, handled-hit, handled-at, handled-low, unhandled-high, create-answers}
+use Rattle.tfs_proofs.specs.Creates.{same-value}
 
 pub means-file : (B : ℕ) (v : View) → Sound B v → (h : ℕ) (nm : List ℕ) → Means B v h nm ↔ MeansFile B v h nm
 means-file B v ok h nm = (
@@ -42,15 +37,6 @@ means-file B v ok h nm = (
         handled-at B v h ok (w .0) (record { file = w .1 .file; number = w .2 }) ∙ sym at,
       ),
 )
-
--- ---- one request out of create, remove and write
--- c is a granted remove of nm
-abbrev pub RemovesName : ℕ → List ℕ → List ℕ → Change → Type 0
-RemovesName B img nm c = (c ≡ removes nm) × T (granted (perform B img c .answer))
-
--- c is a create that answers h
-abbrev pub GivesHandle : ℕ → List ℕ → ℕ → Change → Type 0
-GivesHandle B img h c = (nm : List ℕ) × (z : ℕ) × (c ≡ creates nm z) × (perform B img c .answer ≡ value h)
 
 -- across a frame a file in another slot keeps its name and its inode number
 frame-keeps : (B : ℕ) (img new : List ℕ) (s : ℕ) → Frame B img new s → (h : ℕ) (nm : List ℕ) (w : MeansFile B (view B img) h nm) → w .0 ≢ s → MeansFile B (view B new) h nm
@@ -98,7 +84,7 @@ module _ (B : ℕ) (sz : BlockSize B) (img : List ℕ) (ok : Consistent B img) w
   granted-none : (c : Change) → T (granted (perform B img c .answer)) → (h : ℕ) → MeansNone B v h → (GivesHandle B img h c → ⊥) → MeansNone B (view B (perform B img c .image)) h
   unfolding perform
   granted-none (creates n z) g h none d =
-      let a = create-value B v n z (create B img n z .answer) (grants B sz img ok .on-create n z (create B img n z .answer) .0 refl) g in
+      let a = create-value B v n z (create B img n z .answer) (create-answers B sz img ok n z (create B img n z .answer) .0 refl) g in
       let high : slots B ≤ slotWith B (view B (create B img n z .image)) h =
       created-none B sz img ok n z (a .0) (a .1) h (λ e. d (n, z, refl, a .1 ∙ ap value (sym e))) (unhandled-high B v h none)
       in
@@ -121,13 +107,13 @@ module _ (B : ℕ) (sz : BlockSize B) (img : List ℕ) (ok : Consistent B img) w
       by-test (granted (perform B img c .answer)) (λ g. granted-file c g h nm w d)
       (λ r. subst (λ (x : List ℕ). MeansFile B (view B x) h nm) (sym (refused-keeps B img c r)) w)
 
-  step-none : (c : Change) (h : ℕ) → MeansNone B v h → (GivesHandle B img h c → ⊥) → MeansNone B (view B (perform B img c .image)) h
+  pub step-none : (c : Change) (h : ℕ) → MeansNone B v h → (GivesHandle B img h c → ⊥) → MeansNone B (view B (perform B img c .image)) h
   step-none c h none d =
       by-test (granted (perform B img c .answer)) (λ g. granted-none c g h none d)
       (λ r. subst (λ (x : List ℕ). MeansNone B (view B x) h) (sym (refused-keeps B img c r)) none)
 
   -- the handle of a removed file means none
-  step-gone : (h : ℕ) (nm : List ℕ) → MeansFile B v h nm → MeansNone B (view B (remove B img nm .image)) h
+  pub step-gone : (h : ℕ) (nm : List ℕ) → MeansFile B v h nm → MeansNone B (view B (remove B img nm .image)) h
   unfolding perform
   step-gone h nm w =
       let g : T (granted (remove B img nm .answer)) = stands-removed B sz img ok nm (w .0) (w .1) in
@@ -138,40 +124,27 @@ module _ (B : ℕ) (sz : BlockSize B) (img : List ℕ) (ok : Consistent B img) w
       λ s f. omega (arith, high, handled-low B (view B (remove B img nm .image)) h (stays-consistent B sz img ok (removes nm) .sound) s f)
 
   -- the handle that create answers means the created file
-  step-new : (nm : List ℕ) (z h : ℕ) → create B img nm z .answer ≡ value h → MeansFile B (view B (create B img nm z .image)) h nm
+  pub step-new : (nm : List ℕ) (z h : ℕ) → create B img nm z .answer ≡ value h → MeansFile B (view B (create B img nm z .image)) h nm
   unfolding perform
   step-new nm z h e =
       means-file B (view B (create B img nm z .image)) (stays-consistent B sz img ok (creates nm z) .sound) h nm .0 (created-handle B sz img ok nm z h e)
 
--- one request out of create, remove and write, granted or refused
-pub record StepLaw (B : ℕ) (img : List ℕ) : Type 0 where
-  -- a handle that means a file means it after any request but the file's remove, and none after that
-  pub file : (c : Change) (h : ℕ) (nm : List ℕ) → MeansFile B (view B img) h nm → (RemovesName B img nm c → ⊥) → MeansFile B (view B (perform B img c .image)) h nm
-  pub gone : (h : ℕ) (nm : List ℕ) → MeansFile B (view B img) h nm → MeansNone B (view B (remove B img nm .image)) h
-  -- one that means no file means none after any request but a create that answers it, and the created file after that
-  pub none : (c : Change) (h : ℕ) → MeansNone B (view B img) h → (GivesHandle B img h c → ⊥) → MeansNone B (view B (perform B img c .image)) h
-  pub new : (nm : List ℕ) (z h : ℕ) → create B img nm z .answer ≡ value h → MeansFile B (view B (create B img nm z .image)) h nm
+-- ---- a handle kept over a remove, in the image that a create leaves
+module _ (B : ℕ) (sz : BlockSize B) (img : List ℕ) (ok : Consistent B img) (nm other : List ℕ) (z k h : ℕ) (w : MeansFile B (view B img) k nm) (e : create B (remove B img nm .image) other z .answer ≡ value h) where
+  fine : Consistent B (remove B img nm .image)
+  unfolding perform
+  fine = stays-consistent B sz img ok (removes nm)
 
-pub step-law : (B : ℕ) → BlockSize B → (img : List ℕ) → Consistent B img → StepLaw B img
-step-law B sz img ok =
-    record { file = step-file B sz img ok; gone = step-gone B sz img ok; none = step-none B sz img ok; new = step-new B sz img ok }
+  pub retaken : k ≡ h → MeansFile B (view B (create B (remove B img nm .image) other z .image)) k other
+  retaken d =
+      subst (λ (x : ℕ). MeansFile B (view B (create B (remove B img nm .image) other z .image)) x other) (sym d) (step-new B sz (remove B img nm .image) fine other z h e)
+
+  pub left : k ≢ h → MeansNone B (view B (create B (remove B img nm .image) other z .image)) k
+  unfolding perform
+  left d =
+      step-none B sz (remove B img nm .image) fine (creates other z) k (step-gone B sz img ok k nm w) (λ g. d (same-value k h (sym (g .3) ∙ e)))
 
 -- ---- any number of requests out of create, remove and write, refused ones included
--- "each request gets the image the last one left"
-unfoldable pub afterAll : ℕ → List ℕ → List Change → List ℕ
-afterAll B img [] = img
-afterAll B img (c ∷ cs) = afterAll B (perform B img c .image) cs
-
--- none of the requests is a granted remove of nm
-abbrev pub NoneRemoves : ℕ → List ℕ → List ℕ → List Change → Type 0
-NoneRemoves B img nm [] = Unit {0}
-NoneRemoves B img nm (c ∷ cs) = (RemovesName B img nm c → ⊥) × NoneRemoves B (perform B img c .image) nm cs
-
--- none of the requests is a create that answers h
-abbrev pub NoneGives : ℕ → List ℕ → ℕ → List Change → Type 0
-NoneGives B img h [] = Unit {0}
-NoneGives B img h (c ∷ cs) = (GivesHandle B img h c → ⊥) × NoneGives B (perform B img c .image) h cs
-
 pub record HandlesLaw (B : ℕ) (img : List ℕ) (cs : List Change) : Type 0 where
   pub consistent : Consistent B (afterAll B img cs)
   -- a handle of a file that none of them removes still means it

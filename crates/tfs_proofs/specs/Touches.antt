@@ -28,16 +28,13 @@ use Rattle.tfs_facts.specs.MapBits.{in-at, at-in}
 use Rattle.tfs_facts.specs.Names.{claims-owner, owner-claims}
 use Rattle.tfs_facts.specs.Entries.{length-entry, allowed, inode-size, inode-number, inode-rest}
 use Rattle.tfs_facts.specs.Chosen.{CreateGrant, Choice, choice}
-use Rattle.tfs_laws.specs.Creates as made
-use Rattle.tfs_laws.specs.Removes as removed
-use Rattle.tfs_laws.specs.Changes.{Passed, create-granted, create-image, remove-granted, remove-image}
-use Rattle.tfs_laws.specs.Handles.{answered}
-use Rattle.tfs_laws.specs.Grants.{Stands, stands-at, stands-removed, Vacant, vacant-hit}
-
--- ---- bytes by their block
--- bytes outside blocks 1 and 2
-abbrev pub Outside : ℕ → ℕ → Type 0
-Outside B q = (q < B) ⊎ (3 * B ≤ q)
+use Rattle.tfs_proofs.specs.Creates as made
+use Rattle.tfs_proofs.specs.Removes as removed
+use Rattle.tfs_proofs.specs.Changes.{Passed, create-granted, create-image, remove-granted, remove-image}
+use Rattle.tfs_proofs.specs.Handles.{answered}
+use Rattle.tfs_spec.specs.Answers.{Stands, Vacant}
+use Rattle.tfs_spec.specs.Effects.{Outside, BlockOf, RemoveTouch, LowestBlocks, CreateTouch}
+use Rattle.tfs_proofs.specs.Grants.{stands-at, stands-removed, vacant-hit}
 
 module _ (B : ℕ) (pos : 0 < B) (q : ℕ) where
   -- lie in neither block
@@ -65,11 +62,6 @@ module _ (dir : List ℕ) (s : ℕ) (e : List ℕ) (k : length e ≡ 20) (h : s 
   unfolding setSlot
   slot-out i w = ⊎-elim (getD-with-before (s * 20) 20 e dir k h i) (getD-with-after (s * 20) 20 e dir k h i) w
 
--- ---- remove
--- block b is the inode of the file in slot s, or one of its content blocks
-abbrev pub BlockOf : ℕ → View → ℕ → ℕ → Type 0
-BlockOf B v s b = (inode v s ≡ b) ⊎ ((k : ℕ) × (k < need B (size v s)) × (number v s k ≡ b))
-
 pub block-claimed : (B : ℕ) (v : View) (s b : ℕ) → File B v s → BlockOf B v s b → In b (fileClaims B v s)
 block-claimed B v s b f w =
     ⊎-elim (λ e. owner-claims B v (inodeOf s) b (f, e)) (λ k. owner-claims B v (contentOf s (k .0)) b (f, k .1, k .2)) w
@@ -81,18 +73,6 @@ owned-block B v (contentOf s k) b w = inr (k, w .1, w .2)
 pub claimed-block : (B : ℕ) (v : View) (s b : ℕ) → File B v s → In b (fileClaims B v s) → BlockOf B v s b
 claimed-block B v s b f i =
     let o = claims-owner B v s b f i in subst (λ (t : ℕ). BlockOf B v t b) (o .1) (owned-block B v (o .0) b (o .2))
-
--- what remove of the file in slot s does
-pub record RemoveTouch (B : ℕ) (img new : List ℕ) (s : ℕ) : Type 0 where
-  -- "clears the bits of inode and content"
-  pub cleared : (b : ℕ) → BlockOf B (view B img) s b → mapBit (block B new 1) b ≡ false
-  -- "zeros the 20 bytes of the slot"
-  pub zeroed : (i : ℕ) → i < 20 → getD (block B new 2) (s * 20 + i) 0 ≡ 0
-  -- "touches nothing else": the other bits of block 1, the other bytes of block 2, and all of the other blocks
-  pub bits : (b : ℕ) → (BlockOf B (view B img) s b → ⊥) → mapBit (block B new 1) b ≡ mapBit (block B img 1) b
-  pub entries : (i : ℕ) → (i < s * 20) ⊎ (s * 20 + 20 ≤ i) → getD (block B new 2) i 0 ≡ getD (block B img 2) i 0
-  pub bytes : (q : ℕ) → Outside B q → getD new q 0 ≡ getD img q 0
-  pub long : length new ≡ length img
 
 module _ (B : ℕ) (sz : BlockSize B) (img : List ℕ) (ok : Consistent B img) where
   pos : 0 < B
@@ -139,16 +119,6 @@ module _ (B : ℕ) (sz : BlockSize B) (img : List ℕ) (ok : Consistent B img) w
       (subst (RemoveTouch B img (storeAll B img (removeStores B (view B img) nm))) at
       (stored-touch nm hit (subst (File B (view B img)) (sym at) (st .file))))
 
--- ---- the lowest free blocks
--- cs are the m lowest blocks of the volume that the map does not mark, in rising order
-pub record LowestBlocks (v : View) (m : ℕ) (cs : List ℕ) : Type 0 where
-  pub long : length cs ≡ m
-  pub below : (j : ℕ) → j < m → getD cs j 0 < v .n
-  pub clear : (j : ℕ) → j < m → mapBit (v .map) (getD cs j 0) ≡ false
-  pub rising : (i j : ℕ) → i < j → j < m → getD cs i 0 < getD cs j 0
-  -- any other that is not marked is higher than each of them
-  pub lowest : (b : ℕ) → b < v .n → mapBit (v .map) b ≡ false → (In b cs → ⊥) → (j : ℕ) → j < m → getD cs j 0 < b
-
 -- every free block is among the free ones
 free-in : (map : List ℕ) (k d c : ℕ) → FreeIn map k d c → In c (freeFrom map k d)
 free-in map k zero c h = absurd (omega (arith, h .low, h .high))
@@ -175,31 +145,6 @@ first-lowest map n m c h d j l =
     ]
     in
     omega (arith, getD-take m all j 0 lm, free-rising map 0 n j (at .0) (omega arith) (at .1), at .2)
-
--- ---- create
--- what create of a file of z bytes under nm with the answer h does: it stands in slot s, and cs are its inode and content blocks
-pub record CreateTouch (B : ℕ) (img new nm : List ℕ) (z h s : ℕ) (cs : List ℕ) : Type 0 where
-  -- "lowest free slot"
-  pub vacant : Vacant B (view B img) s
-  pub lower : (t : ℕ) → t < s → T (not (free (view B img) t))
-  -- "lowest free block becomes the inode, the next lowest in rising order hold content"
-  pub blocks : LowestBlocks (view B img) (1 + need B z) cs
-  pub handle : getD cs 0 0 ≡ h
-  pub marked : (b : ℕ) → In b cs → mapBit (block B new 1) b ≡ true
-  -- the 20 bytes of the slot: inode number, "name padded with zeros"
-  pub entry : slot (block B new 2) s ≡ bytes4 h ++ padTo 16 nm
-  -- the inode's bytes: size, block numbers, zeros; as they are read, "Unused inode numbers are 0"
-  pub inode : block B new h ≡ padTo B (words (z ∷ drop 1 cs))
-  pub size : inodeSize (block B new h) ≡ z
-  pub listed : (k : ℕ) → k < need B z → inodeNumber (block B new h) k ≡ getD cs (suc k) 0
-  pub unlisted : (k : ℕ) → need B z ≤ k → inodeNumber (block B new h) k ≡ 0
-  -- "all content blocks wholly zero"
-  pub zeroed : (k : ℕ) → k < need B z → block B new (getD cs (suc k) 0) ≡ zeros B
-  -- all else stays: the other bits of block 1, the other bytes of block 2, and all of the other blocks
-  pub bits : (b : ℕ) → (In b cs → ⊥) → mapBit (block B new 1) b ≡ mapBit (block B img 1) b
-  pub entries : (i : ℕ) → (i < s * 20) ⊎ (s * 20 + 20 ≤ i) → getD (block B new 2) i 0 ≡ getD (block B img 2) i 0
-  pub bytes : (q : ℕ) → Outside B q → (In (q / B) cs → ⊥) → getD new q 0 ≡ getD img q 0
-  pub long : length new ≡ length img
 
 module _ (B : ℕ) (sz : BlockSize B) (img : List ℕ) (ok : Consistent B img) (nm : List ℕ) (z : ℕ) (gr : CreateGrant B (view B img) nm z) where
   abbrev w : View

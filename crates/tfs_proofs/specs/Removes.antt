@@ -21,10 +21,10 @@ use Rattle.tfs_spec.specs.Requests.{store, storeAll, removeStores}
 use Rattle.tfs_facts.specs.Views.{view-n, view-map, view-dir, length-map, length-dir}
 use Rattle.tfs_facts.specs.Stores.{Fits, length-storeAll, stored-away, stored-first, block-same, length-setBlock}
 use Rattle.tfs_facts.specs.MapBits.{in-map, length-setBits, in-dec, mapped-all, Mapped, bits-kept, bits-set}
-use Rattle.tfs_laws.specs.Frame.{Frame, n-same, name-same, file-from, owns-to, owns-from}
+use Rattle.tfs_proofs.specs.Frame.{Frame, n-same, name-same, file-from, owns-to, owns-from}
 use Rattle.tfs_facts.specs.Names.{name-trans, slot-hit, length-setSlot, slot-set, slot-unset, claims-owner, owner-claims}
-use Rattle.tfs_laws.specs.Others.{consistent-to, stands-not, formed-to, apart-to, small-to, inside-to, rest-to, contents-other}
-use Rattle.tfs_laws.specs.Ledger.{change, gone}
+use Rattle.tfs_proofs.specs.Others.{consistent-to, stands-not, formed-to, apart-to, small-to, inside-to, rest-to, contents-other}
+use Rattle.tfs_spec.specs.Effects.{change, gone}
 
 -- a volume of three blocks or more has blocks 0 to 2 inside the image
 pub low-inside : (B : ℕ) (img : List ℕ) → 3 * B ≤ length img → (b : ℕ) → b < 3 → b * B + B ≤ length img
@@ -177,7 +177,7 @@ module _ (B : ℕ) (sz : BlockSize B) (img : List ℕ) (ok : Consistent B img) (
       }
 
   pub remove-consistent : Consistent B new
-  remove-consistent = consistent-to B img new ok long′ (kept 0 (λ e. omega arith) (λ e. omega arith)) sound′
+  remove-consistent = consistent-to B sz img new ok long′ (kept 0 (λ e. omega arith) (λ e. omega arith)) sound′
 
   -- the name no longer stands
   gone-name : (j : List ℕ) → T (sameName j nm) → contents B new j ≡ none

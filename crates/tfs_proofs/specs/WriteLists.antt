@@ -18,49 +18,14 @@ use Rattle.tfs_spec.specs.View.{View, view, free, inode, size, slotWith, slotOf
 use Rattle.tfs_spec.specs.Check.{consistent, broken, check, checkView, tooShort}
 use Rattle.tfs_spec.specs.Consistent.{Sound}
 use Rattle.tfs_spec.specs.Requests.{Answer, done, value, unused, file, refused, granted, Outcome, counted, transferView, writeImage, write}
+use Rattle.tfs_spec.specs.Laws.{Write, request, after, answers, countOf, coversAt, lastAt, WritesLaw, piecesImage, piecesCount, PiecesLaw}
 use Rattle.tfs_facts.specs.Views.{inodes-out}
-use Rattle.tfs_laws.specs.Content.{contents-at, contents-in, standing-map, content-by}
-use Rattle.tfs_laws.specs.Writes.{Put, put, Files, effect, step, run, covers, lastOf, last-write, rest-kept, length-step, step-join}
-use Rattle.tfs_laws.specs.Places.{filesOf, laid, view-kept}
-
-pub record Write : Type 0 where
-  pub handle : ℕ
-  pub offset : ℕ
-  pub bytes : List ℕ
+use Rattle.tfs_proofs.specs.Content.{contents-at, contents-in, standing-map, content-by}
+use Rattle.tfs_proofs.specs.Writes.{Put, put, Files, effect, step, run, covers, lastOf, last-write, rest-kept, length-step, step-join}
+use Rattle.tfs_proofs.specs.Places.{filesOf, laid, view-kept}
 
 abbrev pub wr : ℕ → ℕ → List ℕ → Write
 wr h o bs = record { handle = h; offset = o; bytes = bs }
-
-unfoldable pub request : ℕ → List ℕ → Write → Outcome
-request B img w = write B img (w .handle) (w .offset) (w .bytes)
-
--- "each request gets the image the last one left"
-unfoldable pub after : ℕ → List ℕ → List Write → List ℕ
-after B img [] = img
-after B img (w ∷ ws) = after B (request B img w .image) ws
-
-unfoldable pub answers : ℕ → List ℕ → List Write → List Answer
-answers B img [] = []
-answers B img (w ∷ ws) = request B img w .answer ∷ answers B (request B img w .image) ws
-
--- the count of an answer: a refusal counts 0
-abbrev pub countOf : Answer → ℕ
-countOf done = 0
-countOf (value c) = c
-countOf unused = 0
-countOf (file nm i z) = 0
-countOf (refused num p) = 0
-
--- "A granted write at offset o with count c covers positions o to o + c − 1 of the file its handle means there"
-unfoldable pub coversAt : ℕ → List ℕ → Write → ℕ → ℕ → Bool
-coversAt B img w s p =
-    eqb (slotWith B (view B img) (w .handle)) s
-    && (leb (w .offset) p && ltb p (w .offset + countOf (request B img w .answer)))
-
--- "what the last granted write covering it put there, or its byte before the list"
-unfoldable pub lastAt : ℕ → List ℕ → List Write → ℕ → ℕ → ℕ → ℕ
-lastAt B img [] s p old = old
-lastAt B img (w ∷ ws) s p old = lastAt B img ws s p (cond (coversAt B img w s p) (getD (w .bytes) (p - w .offset) 0) old)
 
 -- ---- a write by its handle is a write to a slot; refused, it writes nothing
 unfoldable pub putOf : ℕ → View → Write → Put
@@ -215,20 +180,6 @@ module _ (B : ℕ) (pos : 0 < B) where
   after-length (w ∷ ws) img passed ok =
       after-length ws (request B img w .image) (request-check img passed ok w) (request-sound img passed ok w) ∙ request-length img passed ok w
 
--- ---- the law of a list of writes, one claim over the whole list
-pub record WritesLaw (B : ℕ) (img : List ℕ) (ws : List Write) : Type 0 where
-  -- "Every write of a list gets the answer that the rules give it on the volume before the list"
-  pub answered : answers B img ws ≡ map (λ w. request B img w .answer) ws
-  -- names, sizes and places are as before
-  pub kept : view B (after B img ws) ≡ view B img
-  -- "every byte of every file is what the last granted write covering it put there, or its byte before the list if none did"
-  pub bytes : (s p : ℕ) → p < size (view B img) s → getD (after B img ws) (place B (view B img) s p) 0 ≡ lastAt B img ws s p (getD img (place B (view B img) s p) 0)
-  -- "No other byte of the image has changed"
-  pub others : (q : ℕ) → ((s p : ℕ) → p < size (view B img) s → q ≢ place B (view B img) s p) → getD (after B img ws) q 0 ≡ getD img q 0
-  pub long : length (after B img ws) ≡ length img
-  -- the same by name: the bytes of each file that stands
-  pub named : (nm : List ℕ) → contents B (after B img ws) nm ≡ Option·map (λ old. table (λ p. lastAt B img ws (slotOf B (view B img) nm) p (getD old p 0)) 0 (length old)) (contents B img nm)
-
 module _ (B : ℕ) (pos : 0 < B) (img : List ℕ) (passed : check B img ≡ consistent) (ok : Sound B (view B img)) where
   writes-bytes : (ws : List Write) (s p : ℕ) → p < size (view B img) s → getD (after B img ws) (place B (view B img) s p) 0 ≡ lastAt B img ws s p (getD img (place B (view B img) s p) 0)
   writes-bytes ws s p l =
@@ -251,24 +202,6 @@ module _ (B : ℕ) (pos : 0 < B) (img : List ℕ) (passed : check B img ≡ cons
             (content-by B (view B img) (after B img ws) img (slotOf B (view B img) nm) (λ p x. lastAt B img ws (slotOf B (view B img) nm) p x) (λ p l. writes-bytes ws (slotOf B (view B img) nm) p l))
             ∙ ap (Option·map (λ old. table (λ p. lastAt B img ws (slotOf B (view B img) nm) p (getD old p 0)) 0 (length old))) (sym (contents-at B img nm)));
       }
-
--- ---- pieces written to one handle, each at the offset where the count of the one before ended
-unfoldable pub piecesImage : ℕ → List ℕ → ℕ → ℕ → List (List ℕ) → List ℕ
-piecesImage B img h o [] = img
-piecesImage B img h o (b ∷ bs) =
-    piecesImage B (request B img (wr h o b) .image) h (o + countOf (request B img (wr h o b) .answer)) bs
-
--- "a refused piece counts 0"
-unfoldable pub piecesCount : ℕ → List ℕ → ℕ → ℕ → List (List ℕ) → ℕ
-piecesCount B img h o [] = 0
-piecesCount B img h o (b ∷ bs) =
-    countOf (request B img (wr h o b) .answer)
-    + piecesCount B (request B img (wr h o b) .image) h (o + countOf (request B img (wr h o b) .answer)) bs
-
--- "the image and the sum of the counts are those of one joined write"
-pub record PiecesLaw (B : ℕ) (img : List ℕ) (h o : ℕ) (bs : List (List ℕ)) : Type 0 where
-  pub image : piecesImage B img h o bs ≡ request B img (wr h o (joined bs)) .image
-  pub count : piecesCount B img h o bs ≡ countOf (request B img (wr h o (joined bs)) .answer)
 
 -- two pieces have together the count of both joined
 pieces-core : (size o : ℕ) (b c : List ℕ) → length (take (size - o) b) + length (take (size - (o + length (take (size - o) b))) c) ≡ length (take (size - o) (b ++ c))
@@ -310,7 +243,7 @@ module _ (B : ℕ) (pos : 0 < B) (h : ℕ) where
         ∙ sym (request-count B img passed (wr h o (b ++ c)))
 
   pub pieces-law : (bs : List (List ℕ)) (o : ℕ) (img : List ℕ) → check B img ≡ consistent → Sound B (view B img) → PiecesLaw B img h o bs
-  unfolding piecesImage piecesCount putOf
+  unfolding piecesImage piecesCount putOf request
   pieces-law [] o img passed ok =
       record {
         image = sym (request-image B img passed (wr h o []) ∙ ap (λ (x : List ℕ). storeAt (λ p. place B (view B img) (slotWith B (view B img) h) p) img o x) (take-nil (size (view B img) (slotWith B (view B img) h) - o)));

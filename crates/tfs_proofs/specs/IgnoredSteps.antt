@@ -19,21 +19,23 @@ use Rattle.tfs_spec.specs.View.{View, view, size, slotOf, slotWith, freeSlot, p
 use Rattle.tfs_spec.specs.Check.{check, consistent, fileClaims}
 use Rattle.tfs_spec.specs.Consistent.{File, Consistent}
 use Rattle.tfs_facts.specs.CheckMeans.{check-means}
-use Rattle.tfs_spec.specs.Requests.{Answer, granted, chosen, create, remove, write}
+use Rattle.tfs_spec.specs.Requests.{Answer, granted, chosen, create, remove, write, Change, creates, removes, writes, perform, afterAll}
 use Rattle.tfs_facts.specs.Sizes.{apart-blocks}
 use Rattle.tfs_facts.specs.Views.{view-head, view-map, view-dir}
 use Rattle.tfs_facts.specs.Stores.{length-block, block-byte}
 use Rattle.tfs_facts.specs.MapBits.{in-dec, in-at}
-use Rattle.tfs_laws.specs.Writes.{step}
-use Rattle.tfs_laws.specs.Places.{filesOf, blocks-eq}
-use Rattle.tfs_laws.specs.WriteLists.{wr, request, putOf, request-image, request-view, request-length}
-use Rattle.tfs_laws.specs.Removes.{low-inside}
-use Rattle.tfs_laws.specs.Changes.{Change, creates, removes, writes, perform, refused-keeps, remove-granted}
-use Rattle.tfs_laws.specs.Kept.{KeptLaw, create-kept, remove-kept, granted-passed}
-use Rattle.tfs_laws.specs.Ignored.{SameRead, Alike, alike, size-alike, number-alike, inode-alike, slot-of-alike, slot-with-alike, free-slot-alike, chosen-alike, ignored}
-use Rattle.tfs_laws.specs.Grants.{Stands, stands-hit}
-use Rattle.tfs_laws.specs.Touches.{BlockOf, block-claimed, claimed-block, RemoveTouch, remove-touches, CreateTouch, created-touch}
-use Rattle.tfs_laws.specs.HandleSteps.{afterAll}
+use Rattle.tfs_proofs.specs.Writes.{step}
+use Rattle.tfs_proofs.specs.Places.{filesOf, blocks-eq}
+use Rattle.tfs_proofs.specs.WriteLists.{wr, putOf, request-image, request-view, request-length}
+use Rattle.tfs_spec.specs.Laws.{request}
+use Rattle.tfs_proofs.specs.Removes.{low-inside}
+use Rattle.tfs_proofs.specs.Changes.{refused-keeps, remove-granted}
+use Rattle.tfs_spec.specs.Effects.{Kept, SameRead, BlockOf, RemoveTouch, CreateTouch}
+use Rattle.tfs_proofs.specs.Kept.{create-kept, remove-kept, granted-passed}
+use Rattle.tfs_proofs.specs.Ignored.{Alike, alike, size-alike, number-alike, inode-alike, slot-of-alike, slot-with-alike, free-slot-alike, chosen-alike, ignored}
+use Rattle.tfs_spec.specs.Answers.{Stands}
+use Rattle.tfs_proofs.specs.Grants.{stands-hit}
+use Rattle.tfs_proofs.specs.Touches.{block-claimed, claimed-block, remove-touches, created-touch}
 
 -- ---- a byte that two images have in common they have after the same stores
 set-same : (a b : List ℕ) (j x q : ℕ) → length a ≡ length b → getD a q 0 ≡ getD b q 0 → getD (set a j x) q 0 ≡ getD (set b j x) q 0
@@ -87,7 +89,7 @@ module _ (B : ℕ) (sz : BlockSize B) (a b : List ℕ) (same : SameRead B a b) (
   pos = omega (arith, sz .large)
 
   -- what both requests leave is alike where it was set alike, and where both left it
-  module _ (na nb : List ℕ) (la : length na ≡ length a) (lb : length nb ≡ length b) (ka : KeptLaw B a na) (kb : KeptLaw B b nb) where
+  module _ (na nb : List ℕ) (la : length na ≡ length a) (lb : length nb ≡ length b) (ka : Kept B a na) (kb : Kept B b nb) where
     long-after : length na ≡ length nb
     long-after = la ∙ same .long ∙ sym lb
 

@@ -10,14 +10,16 @@ use Rattle.tfs_spec.specs.View.{View, view, free, name, slotOf, slotWith, freeS
 use Rattle.tfs_spec.specs.Check.{consistent}
 use Rattle.tfs_spec.specs.Consistent.{Sound, Consistent}
 use Rattle.tfs_facts.specs.CheckMeans.{check-means, same-sym}
-use Rattle.tfs_spec.specs.Requests.{granted, storeAll, createStores, removeStores, write}
-use Rattle.tfs_laws.specs.WriteLists.{wr, request, request-view}
-use Rattle.tfs_laws.specs.Frame.{Frame, inode-same, name-same, file-to}
+use Rattle.tfs_spec.specs.Requests.{granted, storeAll, createStores, removeStores, write, Change, creates, removes, writes, perform}
+use Rattle.tfs_proofs.specs.WriteLists.{wr, request-view}
+use Rattle.tfs_spec.specs.Laws.{request, BothOrders}
+use Rattle.tfs_proofs.specs.Frame.{Frame, inode-same, name-same, file-to}
 use Rattle.tfs_facts.specs.Names.{slot-hit, handle-hit, handle-is, free-hit}
-use Rattle.tfs_laws.specs.Creates as made
-use Rattle.tfs_laws.specs.Removes as removed
-use Rattle.tfs_laws.specs.Ledger.{change, change-comm}
-use Rattle.tfs_laws.specs.Changes.{Change, creates, removes, writes, perform, nameOn, effectOf, Changed, changed, Passed, create-granted, remove-granted, write-granted, create-image, remove-image}
+use Rattle.tfs_proofs.specs.Creates as made
+use Rattle.tfs_proofs.specs.Removes as removed
+use Rattle.tfs_spec.specs.Effects.{change, nameOn, effectOf}
+use Rattle.tfs_proofs.specs.Ledger.{change-comm}
+use Rattle.tfs_proofs.specs.Changes.{Changed, changed, Passed, create-granted, remove-granted, write-granted, create-image, remove-image}
 
 -- across a frame a handle of another slot means the same file
 handle-kept : (B : ℕ) (img new : List ℕ) (s h : ℕ) → Frame B img new s → Sound B (view B new) → slotWith B (view B img) h < slots B → slotWith B (view B img) h ≢ s → name (view B new) (slotWith B (view B new) h) ≡ name (view B img) (slotWith B (view B img) h)
@@ -71,13 +73,6 @@ module _ (B : ℕ) (sz : BlockSize B) (img : List ℕ) (ok : Consistent B img) w
       changed B sz (perform B img a .image) (ca .consistent) b gab .contents j
       ∙ ap (λ (k : List ℕ). change k (effectOf b) (contents B (perform B img a .image)) j) (name-stays a b ga gb apart)
       ∙ ap (λ (c : Contents). change (nameOn B v b) (effectOf b) c j) (fun-ext (ca .contents))
-
--- "granted in both orders"
-pub record BothOrders (B : ℕ) (img : List ℕ) (a b : Change) : Type 0 where
-  pub first-a : T (granted (perform B img a .answer))
-  pub then-b : T (granted (perform B (perform B img a .image) b .answer))
-  pub first-b : T (granted (perform B img b .answer))
-  pub then-a : T (granted (perform B (perform B img b .image) a .answer))
 
 -- "Two requests out of create, remove and write, on different names and granted in both orders,
 -- end with the same names, sizes and contents in either order": all pairs of kinds at once

@@ -8,16 +8,21 @@ use native.Mathlib.Omega.{arith}
 use native.Mathlib.Nat.{zero-add}
 use lib.ListN.{length, getD, take, drop}
 use lib.Arith.{le→nltb}
-use lib.Dec.{T, ltb, ltb→lt, nltb→le, lt→ltb}
-use Rattle.list_laws.specs.Test.{cond-no, not-not, yes-yes}
+use lib.Dec.{T, ltb, ltb→lt, nltb→le, lt→ltb, eqb→eq, eqb, leb→le, leb, le→leb}
+use Rattle.list_laws.specs.Test.{cond-no, not-not, yes-yes, and-of, and-l, and-r, eqb-of}
 use Rattle.lists.specs.Lists.{table}
-use Rattle.tfs_spec.specs.Layout.{slots}
+use Rattle.tfs_spec.specs.Layout.{slots, BlockSize}
 use Rattle.tfs_spec.specs.View.{View, view, inode, size, slotWith, place, content}
 use Rattle.tfs_spec.specs.Check.{Verdict, consistent, broken, check}
-use Rattle.tfs_spec.specs.Consistent.{File, Sound}
-use Rattle.tfs_spec.specs.Requests.{Answer, value, refused, granted, counted, transferView, readBuffer, read, checked, refuseFilled}
+use Rattle.tfs_spec.specs.Consistent.{File, Sound, Consistent}
+use Rattle.tfs_spec.specs.Answers.{Handled}
+use Rattle.tfs_spec.specs.Effects.{ReadLaws}
+use Rattle.tfs_spec.specs.Laws.{Write, request, countOf, coversAt}
+use Rattle.tfs_proofs.specs.WriteLists.{request-answer}
+use Rattle.tfs_spec.specs.Requests.{Answer, value, refused, granted, counted, transferView, readBuffer, read, checked, refuseFilled, done, unused, file}
+use Rattle.tfs_facts.specs.CheckMeans.{check-means}
 use Rattle.tfs_facts.specs.Names.{handle-hit, handle-is}
-use Rattle.tfs_laws.specs.Creates.{value-step, same-value}
+use Rattle.tfs_proofs.specs.Creates.{value-step, same-value}
 
 -- ---- a stretch of a table
 -- of a table, the elements from o on, the first c, and c of them from o on
@@ -89,11 +94,6 @@ transfer-file B v ok s h o len f e l =
     e l f)
 
 -- ---- read
--- granted, read gives the bytes of the file from the offset on and "leaves the rest of the buffer"
-pub record ReadLaw (B : ℕ) (img : List ℕ) (h o : ℕ) (buf : List ℕ) (c : ℕ) : Type 0 where
-  pub transfer : Transfer B (view B img) h o (length buf) c
-  pub buffer : read B img h o buf .buffer ≡ take c (drop o (content B (view B img) img (slotWith B (view B img) h))) ++ drop c buf
-
 read-granted : (verdict : Verdict) (a : Answer) (full buf : List ℕ) (c : ℕ) → checked verdict (refuseFilled buf) (record { answer = a; buffer = cond (granted a) full buf }) .answer ≡ value c → (a ≡ value c) × (checked verdict (refuseFilled buf) (record { answer = a; buffer = cond (granted a) full buf }) .buffer ≡ full)
 read-granted consistent a full buf c e = (e, ap (λ (x : Answer). cond (granted x) full buf) e)
 read-granted (broken num p) a full buf c e = absurd (let z : _≡_ {A = ℕ} 0 1 = cc in omega arith)
@@ -104,7 +104,7 @@ read-left (broken num p) a full buf t = refl
 
 module _ (B : ℕ) (img : List ℕ) (h o : ℕ) (buf : List ℕ) where
   -- of every granted read
-  pub read-law : (c : ℕ) → read B img h o buf .answer ≡ value c → ReadLaw B img h o buf c
+  pub read-law : (c : ℕ) → read B img h o buf .answer ≡ value c → ReadLaws B img h o buf c
   unfolding read readBuffer counted content
   read-law c e =
       let v : View = view B img in
@@ -113,7 +113,10 @@ module _ (B : ℕ) (img : List ℕ) (h o : ℕ) (buf : List ℕ) where
       let r = read-granted (check B img) (transferView B v h o (length buf)) (readBuffer B v img s o buf) buf c e in
       let t : Transfer B v h o (length buf) c = transfer-means B v h o (length buf) c (r .0) in
       record {
-        transfer = t;
+        slot = s;
+        file = record { file = t .file; number = t .handle };
+        within = t .within;
+        count = t .count;
         buffer = r .1
             ∙ ap (λ (k : ℕ). table f o k ++ drop k buf) (sym (t .count))
             ∙ ap (λ (x : List ℕ). x ++ drop c buf) (table-stretch f o c (size v s) (omega (arith, t .count)));
@@ -124,3 +127,42 @@ module _ (B : ℕ) (img : List ℕ) (h o : ℕ) (buf : List ℕ) where
   unfolding read
   read-refused t =
       read-left (check B img) (transferView B (view B img) h o (length buf)) (readBuffer B (view B img) img (slotWith B (view B img) h) o buf) buf t
+
+-- ---- what a write covers
+count-some : (a : Answer) → 1 ≤ countOf a → a ≡ value (countOf a)
+count-some done h = absurd (omega arith)
+count-some (value c) h = refl
+count-some unused h = absurd (omega arith)
+count-some (file nm i z) h = absurd (omega arith)
+count-some (refused num p) h = absurd (omega arith)
+
+module _ (B : ℕ) (sz : BlockSize B) (img : List ℕ) (ok : Consistent B img) (w : Write) (s p : ℕ) where
+  abbrev a : Answer
+  a = request B img w .answer
+
+  passed : check B img ≡ consistent
+  passed = check-means B sz img .1 ok
+
+  covered : T (coversAt B img w s p) → Handled B (view B img) (w .handle) s × (c : ℕ) × (request B img w .answer ≡ value c) × (w .offset ≤ p) × (p < w .offset + c)
+  unfolding coversAt
+  covered t =
+      let at : slotWith B (view B img) (w .handle) ≡ s = eqb→eq _ s (and-l (eqb (slotWith B (view B img) (w .handle)) s) _ t) in
+      let u = and-r (eqb (slotWith B (view B img) (w .handle)) s) _ t in
+      let from : w .offset ≤ p = leb→le (w .offset) p (and-l (leb (w .offset) p) _ u) in
+      let upto : p < w .offset + countOf (request B img w .answer) = ltb→lt p _ (and-r (leb (w .offset) p) _ u) in
+      let e : request B img w .answer ≡ value (countOf (request B img w .answer)) = count-some (request B img w .answer) (omega arith) in
+      let m : Transfer B (view B img) (w .handle) (w .offset) (length (w .bytes)) (countOf (request B img w .answer)) =
+      transfer-means B (view B img) (w .handle) (w .offset) (length (w .bytes)) _ (sym (request-answer B img passed w) ∙ e)
+      in
+      (subst (Handled B (view B img) (w .handle)) at (record { file = m .file; number = m .handle }), countOf (request B img w .answer), e, from, upto)
+
+  pub covers : T (coversAt B img w s p) ↔ (Handled B (view B img) (w .handle) s × (c : ℕ) × (request B img w .answer ≡ value c) × (w .offset ≤ p) × (p < w .offset + c))
+  unfolding coversAt
+  covers = (
+    covered,
+    λ g.
+        let at : slotWith B (view B img) (w .handle) ≡ s = handle-is B (view B img) (w .handle) (ok .sound) s (g .0 .file) (g .0 .number) in
+        let n : countOf (request B img w .answer) ≡ g .1 = ap countOf (g .2) in
+        and-of (eqb (slotWith B (view B img) (w .handle)) s) _ (eqb-of at)
+        (and-of (leb (w .offset) p) _ (le→leb (w .offset) p (g .3)) (lt→ltb p _ (omega (arith, g .4, n)))),
+  )

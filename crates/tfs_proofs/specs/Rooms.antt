@@ -12,16 +12,19 @@ use Rattle.tfs_spec.specs.Layout.{BlockSize, slots, need}
 use Rattle.tfs_spec.specs.View.{View, view, free, size, slotOf, freeSlot, freeBlocks}
 use Rattle.tfs_spec.specs.Consistent.{File, Consistent}
 use Rattle.tfs_facts.specs.CheckMeans.{check-means}
-use Rattle.tfs_facts.specs.Total.{inodeCount, contentCount, adds-up}
+use Rattle.tfs_spec.specs.Effects.{inodeCount, contentCount}
+use Rattle.tfs_facts.specs.Total.{adds-up}
 use Rattle.tfs_spec.specs.Requests.{granted, storeAll, createStores, create, removeStores, remove, write}
-use Rattle.tfs_laws.specs.Frame.{Frame, n-same, free-same, size-same}
-use Rattle.tfs_laws.specs.WriteLists.{wr, request, request-view}
+use Rattle.tfs_proofs.specs.Frame.{Frame, n-same, free-same, size-same}
+use Rattle.tfs_proofs.specs.WriteLists.{wr, request-view}
+use Rattle.tfs_spec.specs.Laws.{request}
 use Rattle.tfs_facts.specs.Names.{free-hit}
 use Rattle.tfs_facts.specs.Chosen.{CreateGrant}
-use Rattle.tfs_laws.specs.Creates as made
-use Rattle.tfs_laws.specs.Removes as removed
-use Rattle.tfs_laws.specs.Changes.{Passed, create-granted, create-image, remove-granted, remove-image}
-use Rattle.tfs_laws.specs.Grants.{Stands, stands-at, stands-removed}
+use Rattle.tfs_proofs.specs.Creates as made
+use Rattle.tfs_proofs.specs.Removes as removed
+use Rattle.tfs_proofs.specs.Changes.{Passed, create-granted, create-image, remove-granted, remove-image}
+use Rattle.tfs_spec.specs.Answers.{Stands}
+use Rattle.tfs_proofs.specs.Grants.{stands-at, stands-removed}
 
 -- two views that differ in slot s only: a has a file there, b has none
 module _ (B : ℕ) (a b : View) (s : ℕ) (low : s < slots B) (taken : T (not (free a s))) (clear : T (free b s)) (frees : (t : ℕ) → t < slots B → t ≢ s → free b t ≡ free a t) (sizes : (t : ℕ) → t < slots B → t ≢ s → size b t ≡ size a t) where

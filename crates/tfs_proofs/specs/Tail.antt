@@ -21,14 +21,16 @@ use Rattle.tfs_facts.specs.CheckMeans.{check-means}
 use Rattle.tfs_spec.specs.Requests.{Answer, done, value, granted, Outcome, Filled, checked, refuse, Store, stored, storeAll, formatStores, format, checkAnswer, openView, openAnswer, createStores, createView, create, removeStores, removeView, remove, counted, transferView, readBuffer, read, writeImage, write, listView, listAnswer, freeAnswer, refuseFilled, refused}
 use Rattle.tfs_facts.specs.Sizes.{after-block, in-image, in-block}
 use Rattle.tfs_facts.specs.Views.{view-n}
-use Rattle.tfs_laws.specs.Places.{blocks-eq, filesOf, position}
-use Rattle.tfs_laws.specs.Writes.{step-other}
-use Rattle.tfs_laws.specs.WriteLists.{wr, request, request-image, request-length, putOf}
+use Rattle.tfs_proofs.specs.Places.{blocks-eq, filesOf, position}
+use Rattle.tfs_proofs.specs.Writes.{step-other}
+use Rattle.tfs_proofs.specs.WriteLists.{wr, request-image, request-length, putOf}
+use Rattle.tfs_spec.specs.Laws.{request}
+use Rattle.tfs_spec.specs.Effects.{Beyond, SameVolume}
 use Rattle.tfs_facts.specs.Stores.{Fits, length-setBlock, length-block, length-storeAll, fits-up, stored-past}
-use Rattle.tfs_laws.specs.Formats.{format-fits, by-format, formatted-past, formatted-length}
-use Rattle.tfs_laws.specs.Creates.{create-grant}
-use Rattle.tfs_laws.specs.Changes.{remove-is, remove-granted}
-use Rattle.tfs_laws.specs.Kept.{volume-end, three, by-create, by-remove, by-write, create-fits, remove-fits}
+use Rattle.tfs_proofs.specs.Formats.{format-fits, by-format, formatted-past, formatted-length}
+use Rattle.tfs_proofs.specs.Creates.{create-grant}
+use Rattle.tfs_proofs.specs.Changes.{remove-is, remove-granted}
+use Rattle.tfs_proofs.specs.Kept.{volume-end, three, by-create, by-remove, by-write, create-fits, remove-fits}
 
 -- a byte of a file lies inside the volume
 place-inside : (B : ℕ) → 0 < B → (img : List ℕ) → Sound B (view B img) → (s p : ℕ) → p < fileSize (view B img) s → place B (view B img) s p < blocks B img * B
@@ -37,12 +39,6 @@ place-inside B pos img ok s p l =
     let b : ℕ = number (view B img) s (p / B) in
     let h : b < blocks B img = subst (λ (n : ℕ). b < n) (view-n B img) (position B pos img ok s p l .high) in
     omega (arith, after-block B b (blocks B img) h, in-block B pos p)
-
--- ---- never changed
--- new is img with other bytes only before the end of the volume
-pub record Beyond (B : ℕ) (img new : List ℕ) : Type 0 where
-  pub long : length new ≡ length img
-  pub bytes : (q : ℕ) → blocks B img * B ≤ q → getD new q 0 ≡ getD img q 0
 
 -- "Bytes from 512·N on are never .. changed", whatever the request and its answer
 pub record TailKept (B : ℕ) (img : List ℕ) : Type 0 where
@@ -94,12 +90,6 @@ module _ {B : ℕ} (size : BlockSize B) (img : List ℕ) where
             by-remove B img nm (Beyond B img) (beyond-same B img) (λ e l. beyond-stored B img (removeStores B (view B img) nm) (remove-fits B size img (check-means B size img .0 e) nm l));
         written = λ h o buf. by-write B img h o buf (Beyond B img) (beyond-same B img) (write-beyond h o buf);
       }
-
--- ---- never read
--- a and b hold the same volume: they differ at most in bytes past its end
-pub record SameVolume (B : ℕ) (a b : List ℕ) : Type 0 where
-  pub n : blocks B a ≡ blocks B b
-  pub bytes : (i : ℕ) → i < blocks B a * B → getD a i 0 ≡ getD b i 0
 
 -- "Bytes from 512·N on are never read": no answer, no buffer and no byte that a request leaves in the volume depends on them
 pub record TailLaw (B : ℕ) (a b : List ℕ) : Type 0 where

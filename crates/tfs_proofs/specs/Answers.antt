@@ -8,20 +8,8 @@ use Rattle.tfs_spec.specs.View.{View}
 use Rattle.tfs_spec.specs.Consistent.{Broken, short, unmagical, unlabelled, malformed, repeated, oversized, misnumbered, twice, unmarked, stray}
 use Rattle.tfs_spec.specs.Requests.{Answer, done, value, unused, file, refused}
 use Rattle.lists.specs.Lists.{In}
-use Rattle.tfs_laws.specs.Grants as rule
-use Rattle.tfs_laws.specs.Grants.{FindRule, CreateRule, TransferRule, ListRule, FormatRule}
-
--- a grant, or a refusal with one of the numbers; "Refusals 8 to 15 have place 0"
-abbrev pub Numbered : List ℕ → Answer → Type 0
-Numbered nums done = Unit {0}
-Numbered nums (value x) = Unit {0}
-Numbered nums unused = Unit {0}
-Numbered nums (file nm i z) = Unit {0}
-Numbered nums (refused num p) = In num nums × (8 ≤ num → p ≡ 0)
-
--- the check's numbers, and then the request's own
-abbrev pub checkThen : List ℕ → List ℕ
-checkThen own = 1 ∷ 2 ∷ 3 ∷ 4 ∷ 5 ∷ 6 ∷ 7 ∷ own
+use Rattle.tfs_spec.specs.Answers as rule
+use Rattle.tfs_spec.specs.Answers.{FindRule, CreateRule, TransferRule, ListRule, FormatRule, Numbered, checkThen}
 
 -- one of its own
 own-number : (own : List ℕ) (num : ℕ) → In num own → Numbered (checkThen own) (refused num 0)

@@ -11,43 +11,20 @@ use Rattle.list_laws.specs.Test.{not-not, to-true, by-test, cond-no}
 use Rattle.tfs_spec.specs.Layout.{BlockSize, slots}
 use Rattle.tfs_spec.specs.View.{View, view, name, slotOf, slotWith, contents}
 use Rattle.tfs_spec.specs.Check.{Verdict, consistent, broken, check}
+use Rattle.tfs_spec.specs.Answers.{Handled}
 use Rattle.tfs_spec.specs.Consistent.{Consistent}
 use Rattle.tfs_facts.specs.CheckMeans.{check-means}
-use Rattle.tfs_spec.specs.Requests.{Answer, granted, Outcome, stored, storeAll, createView, createStores, create, removeView, removeStores, remove, transferView, write, checked, refuse, refused}
+use Rattle.tfs_spec.specs.Requests.{Answer, granted, Outcome, stored, storeAll, createView, createStores, create, removeView, removeStores, remove, transferView, write, checked, refuse, refused, Change, creates, removes, writes, perform}
 use Rattle.tfs_facts.specs.Views.{view-head}
-use Rattle.tfs_laws.specs.WriteLists.{wr, request, putOf, request-answer, request-image, request-view, request-length, request-sound}
-use Rattle.tfs_facts.specs.Names.{handle-hit}
-use Rattle.tfs_laws.specs.Others.{consistent-to}
+use Rattle.tfs_proofs.specs.WriteLists.{wr, putOf, request-answer, request-image, request-view, request-length, request-sound}
+use Rattle.tfs_spec.specs.Laws.{request}
+use Rattle.tfs_facts.specs.Names.{handle-hit, handle-is}
+use Rattle.tfs_proofs.specs.Others.{consistent-to}
 use Rattle.tfs_facts.specs.Chosen.{CreateGrant}
-use Rattle.tfs_laws.specs.Creates.{grant-step, create-grant, create-consistent, create-contents}
-use Rattle.tfs_laws.specs.Removes.{remove-consistent, remove-contents}
-use Rattle.tfs_laws.specs.WriteContents.{write-contents}
-use Rattle.tfs_laws.specs.Ledger.{change, made, gone, wrote}
-
-pub data Change : Type 0 where
-  -- name and size
-  creates : List ℕ → ℕ → Change
-  -- name
-  removes : List ℕ → Change
-  -- handle, offset and bytes
-  writes : ℕ → ℕ → List ℕ → Change
-
-unfoldable pub perform : ℕ → List ℕ → Change → Outcome
-perform B img (creates nm z) = create B img nm z
-perform B img (removes nm) = remove B img nm
-perform B img (writes h o bs) = write B img h o bs
-
--- the name that a request is on; "a write's name is that of the file its handle means"
-unfoldable pub nameOn : ℕ → View → Change → List ℕ
-nameOn B v (creates nm z) = nm
-nameOn B v (removes nm) = nm
-nameOn B v (writes h o bs) = name v (slotWith B v h)
-
--- what a granted request makes of what stands under its name
-abbrev pub effectOf : Change → Option (List ℕ) → Option (List ℕ)
-effectOf (creates nm z) = made z
-effectOf (removes nm) = gone
-effectOf (writes h o bs) = wrote o bs
+use Rattle.tfs_proofs.specs.Creates.{grant-step, create-grant, create-consistent, create-contents}
+use Rattle.tfs_proofs.specs.Removes.{remove-consistent, remove-contents}
+use Rattle.tfs_proofs.specs.WriteContents.{write-contents}
+use Rattle.tfs_spec.specs.Effects.{change, made, gone, wrote, nameOn, effectOf}
 
 -- ---- a granted request on a consistent volume
 abbrev pub Passed : ℕ → List ℕ → Type 0
@@ -123,7 +100,7 @@ module _ (B : ℕ) (sz : BlockSize B) where
     pub write-consistent : Consistent B (write B img h o bs .image)
     unfolding request
     write-consistent =
-        consistent-to B img (write B img h o bs .image) ok
+        consistent-to B sz img (write B img h o bs .image) ok
         (request-length B pos img p (ok .sound) (wr h o bs))
         (sym (view-head B (write B img h o bs .image)) ∙ ap (λ (v : View). v .head) (request-view B pos img p (ok .sound) (wr h o bs)) ∙ view-head B img)
         (request-sound B pos img p (ok .sound) (wr h o bs))
@@ -162,3 +139,8 @@ module _ (B : ℕ) (sz : BlockSize B) where
       by-test (granted (perform B img c .answer))
       (λ t. changed img ok c t .consistent)
       (λ t. subst (Consistent B) (sym (refused-keeps B img c t)) ok)
+
+-- a write is on the name of the file that its handle means
+pub name-on : (B : ℕ) → BlockSize B → (img : List ℕ) → Consistent B img → (h o : ℕ) (bs : List ℕ) (s : ℕ) → Handled B (view B img) h s → nameOn B (view B img) (writes h o bs) ≡ name (view B img) s
+unfolding nameOn
+name-on B sz img ok h o bs s f = ap (name (view B img)) (handle-is B (view B img) h (ok .sound) s (f .file) (f .number))

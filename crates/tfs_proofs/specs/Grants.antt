@@ -21,20 +21,12 @@ use Rattle.tfs_spec.specs.Consistent.{File, Sound, Consistent}
 use Rattle.tfs_facts.specs.Claims.{count-some}
 use Rattle.tfs_facts.specs.CheckMeans.{check-means, same-means, length-field, used-means, name-means}
 use Rattle.tfs_facts.specs.Room.{free-cursor}
-use Rattle.tfs_spec.specs.Requests.{Answer, done, value, unused, file, refused, granted, Outcome, refuse, openView, openAnswer, freeFrom, chosen, createView, create, removeView, remove, counted, transferView, read, write, listView, listAnswer, format}
+use Rattle.tfs_spec.specs.Requests.{Request, changes, checks, opens, reads, lists, counts, creates, removes, writes, perform, reply, checkAnswer, freeAnswer, Answer, done, value, unused, file, refused, granted, Outcome, refuse, openView, openAnswer, freeFrom, chosen, createView, create, removeView, remove, counted, transferView, read, write, listView, listAnswer, format}
+use Rattle.tfs_spec.specs.Answers.{LabelRule, NameRule, Stands, Fresh, Handled, Vacant, LowestBlock, FindRule, misnamed, absent, found, CreateRule, unnamed, oversized, standing, full, cramped, created, TransferRule, unhandled, beyond, moved, ListRule, outside, vacant, holds, FormatRule, short, unlabelled, formatted, Rule, CreateGranted}
 use Rattle.tfs_facts.specs.Views.{length-dir}
 use Rattle.tfs_facts.specs.Names.{slot-hit, slot-miss, slot-is, handle-hit, handle-is, free-hit}
-use Rattle.tfs_laws.specs.Changes.{create-is, remove-is}
-use Rattle.tfs_laws.specs.Handles.{read-answer, write-answer}
-
--- ---- names
--- at most 15 bytes, none of them zero: what format takes as the volume's name
-abbrev pub LabelRule : List ℕ → Type 0
-LabelRule l = (length l ≤ 15) × ((i : ℕ) → i < length l → getD l i 0 ≢ 0)
-
--- 1 to 15 bytes, none of them zero
-abbrev pub NameRule : List ℕ → Type 0
-NameRule nm = (1 ≤ length nm) × LabelRule nm
+use Rattle.tfs_proofs.specs.Changes.{create-is, remove-is}
+use Rattle.tfs_proofs.specs.Handles.{read-answer, write-answer}
 
 -- a list with no zero byte has its first zero at its end
 no-zero : (l : List ℕ) → ((i : ℕ) → i < length l → getD l i 0 ≢ 0) → firstZero l ≡ length l
@@ -60,32 +52,6 @@ name-allowed nm = (
   (λ t. (leb→le 1 (length nm) (and-l (leb 1 (length nm)) _ t), label-allowed nm .0 (and-r (leb 1 (length nm)) _ t))),
   λ r. and-of (leb 1 (length nm)) _ (le→leb 1 (length nm) (r .0)) (label-allowed nm .1 (r .1)),
 )
-
--- ---- the file of a name, of a handle, and free slots and blocks
--- the file in slot s has the name nm
-pub record Stands (B : ℕ) (v : View) (nm : List ℕ) (s : ℕ) : Type 0 where
-  pub file : File B v s
-  pub named : name v s ≡ nm
-
--- no file has the name nm
-abbrev pub Fresh : ℕ → View → List ℕ → Type 0
-Fresh B v nm = (s : ℕ) → Stands B v nm s → ⊥
-
--- the file in slot s has the inode number h
-pub record Handled (B : ℕ) (v : View) (h s : ℕ) : Type 0 where
-  pub file : File B v s
-  pub number : inode v s ≡ h
-
--- slot s is free
-pub record Vacant (B : ℕ) (v : View) (s : ℕ) : Type 0 where
-  pub slot : s < slots B
-  pub free : T (free v s)
-
--- h is the lowest block of the volume that the map does not mark
-pub record LowestBlock (v : View) (h : ℕ) : Type 0 where
-  pub below : h < v .n
-  pub clear : mapBit (v .map) h ≡ false
-  pub marked : (i : ℕ) → i < h → mapBit (v .map) i ≡ true
 
 module _ (B : ℕ) (v : View) (nm : List ℕ) where
   pub stands-hit : slotOf B v nm < slots B → Stands B v nm (slotOf B v nm)
@@ -167,15 +133,6 @@ by-choice false x y P f g = g tt
 past-name : (nm : List ℕ) → NameRule nm → (x : Answer) → cond (not (nameAllowed nm)) (refused 8 0) x ≡ x
 past-name nm r x = cond-no (not (nameAllowed nm)) (refused 8 0) x (yes-yes (nameAllowed nm) (name-allowed nm .1 r))
 
--- ---- open and remove
-pub data FindRule (B : ℕ) (v : View) (nm : List ℕ) (grant : ℕ → Answer) : Answer → Type 0 where
-  -- 8: "name empty, over 15 bytes, or holding a zero byte"
-  misnamed : (NameRule nm → ⊥) → FindRule B v nm grant (refused 8 0)
-  -- 13: "name doesn't stand"
-  absent : NameRule nm → Fresh B v nm → FindRule B v nm grant (refused 13 0)
-  -- granted, on the file in slot s
-  found : (s : ℕ) → NameRule nm → Stands B v nm s → FindRule B v nm grant (grant s)
-
 -- the answer of open, and that of remove, by the slot of the name
 abbrev findAnswer : ℕ → View → List ℕ → (ℕ → Answer) → Answer
 findAnswer B v nm grant =
@@ -204,21 +161,6 @@ module _ (B : ℕ) (v : View) (ok : Sound B v) (nm : List ℕ) (grant : ℕ → 
 
   find-rule : (a : Answer) → (findAnswer B v nm grant ≡ a) ↔ FindRule B v nm grant a
   find-rule a = ((λ e. subst (FindRule B v nm grant) e find-holds), find-only a)
-
--- ---- create
-pub data CreateRule (B : ℕ) (v : View) (nm : List ℕ) (z : ℕ) : Answer → Type 0 where
-  -- 8: "name empty, over 15 bytes, or holding a zero byte"
-  unnamed : (NameRule nm → ⊥) → CreateRule B v nm z (refused 8 0)
-  -- 9: "size over 65,024"
-  oversized : NameRule nm → maxSize B < z → CreateRule B v nm z (refused 9 0)
-  -- 10: "name stands already"
-  standing : (s : ℕ) → NameRule nm → z ≤ maxSize B → Stands B v nm s → CreateRule B v nm z (refused 10 0)
-  -- 11: "no free slot"
-  full : NameRule nm → z ≤ maxSize B → Fresh B v nm → ((s : ℕ) → Vacant B v s → ⊥) → CreateRule B v nm z (refused 11 0)
-  -- 12: "fewer than 1 + ⌈size/512⌉ zero bits below N"
-  cramped : (s : ℕ) → NameRule nm → z ≤ maxSize B → Fresh B v nm → Vacant B v s → freeBlocks v < 1 + need B z → CreateRule B v nm z (refused 12 0)
-  -- granted: "lowest free block becomes the inode"; "Result: the inode number"
-  created : (s h : ℕ) → NameRule nm → z ≤ maxSize B → Fresh B v nm → Vacant B v s → 1 + need B z ≤ freeBlocks v → LowestBlock v h → CreateRule B v nm z (value h)
 
 module _ (B : ℕ) (v : View) (ok : Sound B v) (nm : List ℕ) (z : ℕ) where
   create-holds : CreateRule B v nm z (createView B v nm z)
@@ -285,15 +227,6 @@ module _ (B : ℕ) (v : View) (ok : Sound B v) (nm : List ℕ) (z : ℕ) where
   create-rule : (a : Answer) → (createView B v nm z ≡ a) ↔ CreateRule B v nm z a
   create-rule a = ((λ e. subst (CreateRule B v nm z) e create-holds), create-only a)
 
--- ---- read and write
-pub data TransferRule (B : ℕ) (v : View) (h o len : ℕ) : Answer → Type 0 where
-  -- 14: "handle is no used slot's inode number"
-  unhandled : ((s : ℕ) → Handled B v h s → ⊥) → TransferRule B v h o len (refused 14 0)
-  -- 15: "offset greater than size"
-  beyond : (s : ℕ) → Handled B v h s → size v s < o → TransferRule B v h o len (refused 15 0)
-  -- granted: "count = smaller of buffer length and size − offset"
-  moved : (s : ℕ) → Handled B v h s → o ≤ size v s → TransferRule B v h o len (value (min len (size v s - o)))
-
 module _ (B : ℕ) (v : View) (ok : Sound B v) (h o len : ℕ) where
   transfer-holds : TransferRule B v h o len (transferView B v h o len)
   unfolding transferView counted
@@ -323,14 +256,6 @@ module _ (B : ℕ) (v : View) (ok : Sound B v) (h o len : ℕ) where
   transfer-rule : (a : Answer) → (transferView B v h o len ≡ a) ↔ TransferRule B v h o len a
   transfer-rule a = ((λ e. subst (TransferRule B v h o len) e transfer-holds), transfer-only a)
 
--- ---- list
-pub data ListRule (B : ℕ) (v : View) (s : ℕ) : Answer → Type 0 where
-  -- 14: "slot over 24"
-  outside : slots B ≤ s → ListRule B v s (refused 14 0)
-  -- "a free slot, or name, inode number and size"
-  vacant : Vacant B v s → ListRule B v s unused
-  holds : File B v s → ListRule B v s (file (name v s) (inode v s) (size v s))
-
 module _ (B : ℕ) (v : View) (s : ℕ) where
   list-holds : ListRule B v s (listView B v s)
   unfolding listView
@@ -351,15 +276,6 @@ module _ (B : ℕ) (v : View) (s : ℕ) where
 
   list-rule : (a : Answer) → (listView B v s ≡ a) ↔ ListRule B v s a
   list-rule a = ((λ e. subst (ListRule B v s) e list-holds), list-only a)
-
--- ---- format, of any image
-pub data FormatRule (B : ℕ) (img label : List ℕ) : Answer → Type 0 where
-  -- 1: "image under 1,536 bytes"
-  short : length img < 3 * B → FormatRule B img label (refused 1 0)
-  -- 8: "format allows empty"
-  unlabelled : 3 * B ≤ length img → (LabelRule label → ⊥) → FormatRule B img label (refused 8 0)
-  -- granted
-  formatted : 3 * B ≤ length img → LabelRule label → FormatRule B img label done
 
 module _ (B : ℕ) (img label : List ℕ) where
   format-holds : FormatRule B img label (format B img label .answer)
@@ -387,36 +303,40 @@ module _ (B : ℕ) (img label : List ℕ) where
   format-rule a = ((λ e. subst (FormatRule B img label) e format-holds), format-only a)
 
 -- ---- the requests on a consistent volume
--- the table of each request
-pub record GrantLaw (B : ℕ) (img : List ℕ) : Type 0 where
-  pub on-open : (nm : List ℕ) (a : Answer) → (openAnswer B img nm ≡ a) ↔ FindRule B (view B img) nm (λ s. value (inode (view B img) s)) a
-  pub on-create : (nm : List ℕ) (z : ℕ) (a : Answer) → (create B img nm z .answer ≡ a) ↔ CreateRule B (view B img) nm z a
-  pub on-remove : (nm : List ℕ) (a : Answer) → (remove B img nm .answer ≡ a) ↔ FindRule B (view B img) nm (λ s. done) a
-  pub on-read : (h o : ℕ) (buf : List ℕ) (a : Answer) → (read B img h o buf .answer ≡ a) ↔ TransferRule B (view B img) h o (length buf) a
-  pub on-write : (h o : ℕ) (buf : List ℕ) (a : Answer) → (write B img h o buf .answer ≡ a) ↔ TransferRule B (view B img) h o (length buf) a
-  pub on-list : (s : ℕ) (a : Answer) → (listAnswer B img s ≡ a) ↔ ListRule B (view B img) s a
-
 iff-at : (x y a : Answer) (P : Type 0) → x ≡ y → ((y ≡ a) ↔ P) → ((x ≡ a) ↔ P)
 iff-at x y a P e h = ((λ d. h .0 (sym e ∙ d)), λ p. e ∙ h .1 p)
 
-pub grants : (B : ℕ) → BlockSize B → (img : List ℕ) → Consistent B img → GrantLaw B img
-unfolding openAnswer openView removeView listAnswer
-grants B sz img ok =
-    let v : View = view B img in
-    let passed : check B img ≡ consistent = check-means B sz img .1 ok in
-    record {
-      on-open = λ nm a.
-          iff-at (openAnswer B img nm) (openView B v nm) a _ (rw passed) (find-rule B v (ok .sound) nm (λ s. value (inode v s)) a);
-      on-create = λ nm z a.
-          iff-at (create B img nm z .answer) (createView B v nm z) a _ (ap (λ (o : Outcome). o .answer) (create-is B img passed nm z)) (create-rule B v (ok .sound) nm z a);
-      on-remove = λ nm a.
-          iff-at (remove B img nm .answer) (removeView B v nm) a _ (ap (λ (o : Outcome). o .answer) (remove-is B img passed nm)) (find-rule B v (ok .sound) nm (λ s. done) a);
-      on-read = λ h o buf a.
-          iff-at (read B img h o buf .answer) (transferView B v h o (length buf)) a _ (read-answer B img passed h o buf) (transfer-rule B v (ok .sound) h o (length buf) a);
-      on-write = λ h o buf a.
-          iff-at (write B img h o buf .answer) (transferView B v h o (length buf)) a _ (write-answer B img passed h o buf) (transfer-rule B v (ok .sound) h o (length buf) a);
-      on-list = λ s a. iff-at (listAnswer B img s) (listView B v s) a _ (rw passed) (list-rule B v s a);
-    }
+module _ (B : ℕ) (sz : BlockSize B) (img : List ℕ) (ok : Consistent B img) where
+  abbrev w : View
+  w = view B img
+
+  passed : check B img ≡ consistent
+  passed = check-means B sz img .1 ok
+
+  -- an answer is given exactly in its case of the request's table
+  pub rule-reply : (r : Request) (a : Answer) → (reply B img r .answer ≡ a) ↔ Rule B (view B img) r a
+  unfolding perform openAnswer openView removeView listAnswer checkAnswer freeAnswer
+  rule-reply (changes (creates nm z)) a =
+      iff-at (create B img nm z .answer) (createView B w nm z) a _ (ap (λ (o : Outcome). o .answer) (create-is B img passed nm z)) (create-rule B w (ok .sound) nm z a)
+  rule-reply (changes (removes nm)) a =
+      iff-at (remove B img nm .answer) (removeView B w nm) a _ (ap (λ (o : Outcome). o .answer) (remove-is B img passed nm)) (find-rule B w (ok .sound) nm (λ s. done) a)
+  rule-reply (changes (writes h o bs)) a =
+      iff-at (write B img h o bs .answer) (transferView B w h o (length bs)) a _ (write-answer B img passed h o bs) (transfer-rule B w (ok .sound) h o (length bs) a)
+  rule-reply checks a = iff-at (checkAnswer B img) done a _ (rw passed) ((λ e. e), λ e. e)
+  rule-reply (opens nm) a =
+      iff-at (openAnswer B img nm) (openView B w nm) a _ (rw passed) (find-rule B w (ok .sound) nm (λ s. value (inode w s)) a)
+  rule-reply (reads h o buf) a =
+      iff-at (read B img h o buf .answer) (transferView B w h o (length buf)) a _ (read-answer B img passed h o buf) (transfer-rule B w (ok .sound) h o (length buf) a)
+  rule-reply (lists s) a = iff-at (listAnswer B img s) (listView B w s) a _ (rw passed) (list-rule B w s a)
+  rule-reply counts a = iff-at (freeAnswer B img) (value (B * freeBlocks w)) a _ (rw passed) ((λ e. e), λ e. e)
+
+  pub create-answers : (nm : List ℕ) (z : ℕ) (a : Answer) → (create B img nm z .answer ≡ a) ↔ CreateRule B (view B img) nm z a
+  unfolding perform
+  create-answers nm z a = rule-reply (changes (creates nm z)) a
+
+  pub remove-answers : (nm : List ℕ) (a : Answer) → (remove B img nm .answer ≡ a) ↔ FindRule B (view B img) nm (λ s. done) a
+  unfolding perform
+  remove-answers nm a = rule-reply (changes (removes nm)) a
 
 -- every name that stands is one that requests take
 pub stands-named : (B : ℕ) (img : List ℕ) → Consistent B img → (nm : List ℕ) (s : ℕ) → Stands B (view B img) nm s → NameRule nm
@@ -436,15 +356,7 @@ stands-named B img ok nm s st =
 -- so a remove of it is granted
 pub stands-removed : (B : ℕ) → BlockSize B → (img : List ℕ) → Consistent B img → (nm : List ℕ) (s : ℕ) → Stands B (view B img) nm s → T (granted (remove B img nm .answer))
 stands-removed B sz img ok nm s st =
-    subst (λ (a : Answer). T (granted a)) (sym (grants B sz img ok .on-remove nm done .1 (found s (stands-named B img ok nm s st) st))) tt
-
--- create is granted exactly when all five tests are passed
-pub record CreateGranted (B : ℕ) (v : View) (nm : List ℕ) (z : ℕ) : Type 0 where
-  pub named : NameRule nm
-  pub small : z ≤ maxSize B
-  pub fresh : Fresh B v nm
-  pub slot : (s : ℕ) × Vacant B v s
-  pub room : 1 + need B z ≤ freeBlocks v
+    subst (λ (a : Answer). T (granted a)) (sym (remove-answers B sz img ok nm done .1 (found s (stands-named B img ok nm s st) st))) tt
 
 granted-five : (B : ℕ) (v : View) (nm : List ℕ) (z : ℕ) (a : Answer) → CreateRule B v nm z a → T (granted a) → CreateGranted B v nm z
 granted-five B v nm z _ (unnamed h) t = absurd t
@@ -456,7 +368,7 @@ granted-five B v nm z _ (created s h r k f w room low) t = record { named = r; s
 
 pub create-grants : (B : ℕ) → BlockSize B → (img : List ℕ) → Consistent B img → (nm : List ℕ) (z : ℕ) → T (granted (create B img nm z .answer)) ↔ CreateGranted B (view B img) nm z
 create-grants B sz img ok nm z =
-    let law = grants B sz img ok .on-create nm z in (
+    let law = create-answers B sz img ok nm z in (
       (λ t. granted-five B (view B img) nm z (create B img nm z .answer) (law (create B img nm z .answer) .0 refl) t),
       λ g.
           let low = lowest-block (view B img) (omega (arith, g .room)) in

@@ -15,32 +15,26 @@ use Rattle.tfs_spec.specs.Check.{Verdict, consistent, broken, check, fileClaims
 use Rattle.tfs_spec.specs.Consistent.{File, Inside, Consistent}
 use Rattle.tfs_facts.specs.CheckMeans.{check-means, owns-inside}
 use Rattle.tfs_facts.specs.Total.{three-blocks}
-use Rattle.tfs_spec.specs.Requests.{granted, Outcome, Store, store, storeAll, zeroStores, chosen, placeStores, createStores, create, removeStores, remove, write, checked, refuse, refused}
+use Rattle.tfs_spec.specs.Requests.{granted, Outcome, Store, store, storeAll, zeroStores, chosen, placeStores, createStores, create, removeStores, remove, write, checked, refuse, refused, Change, creates, removes, writes, perform}
 use Rattle.tfs_facts.specs.Sizes.{after-block}
 use Rattle.tfs_facts.specs.Views.{view-n, view-head, view-map, view-dir, length-map, length-dir}
 use Rattle.tfs_facts.specs.Stores.{Fits, Away, stored-away, stored-first, zero-fits, zero-away, fits-up, stored-at, fits-append, away-append}
 use Rattle.tfs_facts.specs.MapBits.{in-at, mapped-all, length-setBits, bits-kept}
-use Rattle.tfs_laws.specs.WriteLists.{wr, request, request-view}
+use Rattle.tfs_proofs.specs.WriteLists.{wr, request-view}
+use Rattle.tfs_spec.specs.Laws.{request}
 use Rattle.tfs_facts.specs.Names.{slot-hit, length-setSlot, claims-owner}
 use Rattle.tfs_facts.specs.Entries.{length-pad, Allowed, allowed, length-entry}
-use Rattle.tfs_laws.specs.Removes.{map-inside}
+use Rattle.tfs_proofs.specs.Removes.{map-inside}
 use Rattle.tfs_facts.specs.Chosen.{CreateGrant, choice}
-use Rattle.tfs_laws.specs.Changes.{Change, creates, removes, writes, perform, create-image, create-granted, remove-image, remove-granted, refused-keeps}
-
--- what requests other than format keep
-pub record KeptLaw (B : ℕ) (img new : List ℕ) : Type 0 where
-  pub head : block B new 0 ≡ block B img 0
-  -- "Bytes 500..511 are ignored and kept"
-  pub ends : (i : ℕ) → 20 * slots B ≤ i → getD (block B new 2) i 0 ≡ getD (block B img 2) i 0
-  -- "Bits from N on are ignored and kept"
-  pub bits : (b : ℕ) → blocks B img ≤ b → mapBit (block B new 1) b ≡ mapBit (block B img 1) b
+use Rattle.tfs_spec.specs.Effects.{Kept}
+use Rattle.tfs_proofs.specs.Changes.{create-image, create-granted, remove-image, remove-granted, refused-keeps}
 
 -- an image that stays keeps all of it
-kept-same : (B : ℕ) (img : List ℕ) → KeptLaw B img img
+kept-same : (B : ℕ) (img : List ℕ) → Kept B img img
 kept-same B img = record { head = refl; ends = λ i h. refl; bits = λ b h. refl }
 
 -- and so does a new one with the same view
-kept-view : (B : ℕ) (img new : List ℕ) → view B new ≡ view B img → KeptLaw B img new
+kept-view : (B : ℕ) (img new : List ℕ) → view B new ≡ view B img → Kept B img new
 kept-view B img new e =
     record {
       head = sym (view-head B new) ∙ ap (λ (v : View). v .head) e ∙ view-head B img;
@@ -135,7 +129,7 @@ module _ (B : ℕ) (size : BlockSize B) (img : List ℕ) (ok : Consistent B img)
   three-in = three B size img (ok .long)
 
   -- what a request that stores a new map and a new directory keeps
-  stored-kept : (xs : List Store) (w : ℕ) (cs : List ℕ) (s : ℕ) (e : List ℕ) → Fits B end xs → Away 0 xs → w < 2 → ((c : ℕ) → In c cs → Inside v c) → s < slots B → length e ≡ 20 → block B (storeAll B img xs) 1 ≡ setBits (v .map) w cs → block B (storeAll B img xs) 2 ≡ setSlot (v .dir) s e → KeptLaw B img (storeAll B img xs)
+  stored-kept : (xs : List Store) (w : ℕ) (cs : List ℕ) (s : ℕ) (e : List ℕ) → Fits B end xs → Away 0 xs → w < 2 → ((c : ℕ) → In c cs → Inside v c) → s < slots B → length e ≡ 20 → block B (storeAll B img xs) 1 ≡ setBits (v .map) w cs → block B (storeAll B img xs) 2 ≡ setSlot (v .dir) s e → Kept B img (storeAll B img xs)
   stored-kept xs w cs s e fits away two low l k new-map new-dir =
       record {
         head = stored-away B xs img 0 (fits-up B end (length img) (volume-end B img) xs fits) away;
@@ -155,7 +149,7 @@ module _ (B : ℕ) (size : BlockSize B) (img : List ℕ) (ok : Consistent B img)
       ),
     )
 
-    remove-keeps : KeptLaw B img (storeAll B img (removeStores B v nm))
+    remove-keeps : Kept B img (storeAll B img (removeStores B v nm))
     unfolding removeStores
     remove-keeps =
         let fits : Fits B (length img) (removeStores B v nm) = fits-up B end (length img) (volume-end B img) (removeStores B v nm) remove-fits in
@@ -203,7 +197,7 @@ module _ (B : ℕ) (size : BlockSize B) (img : List ℕ) (ok : Consistent B img)
         (zero-away B bs 0 (λ m h e. omega (arith, low (suc m) (omega arith) .low)))
         ((λ e. omega (arith, low 0 (omega arith) .low)), (omega arith, (omega arith, tt)))
 
-    place-keeps : (cs : List ℕ) → ((m : ℕ) → m < length cs → Inside v (getD cs m 0)) → KeptLaw B img (storeAll B img (placeStores B v s nm sz cs))
+    place-keeps : (cs : List ℕ) → ((m : ℕ) → m < length cs → Inside v (getD cs m 0)) → Kept B img (storeAll B img (placeStores B v s nm sz cs))
     unfolding placeStores
     place-keeps [] low = kept-same B img
     place-keeps (i ∷ bs) low =
@@ -225,19 +219,19 @@ module _ {B : ℕ} (size : BlockSize B) (img : List ℕ) where
       place-fits B size img (sound-of e) nm (allowed nm (g .named)) sz (freeSlot B (view B img)) (g .slot) (chosen B (view B img) sz) (chosen-inside B size img (sound-of e) sz (g .room))
 
   -- create keeps what the layout says is kept
-  pub create-kept : (nm : List ℕ) (sz : ℕ) → KeptLaw B img (create B img nm sz .image)
+  pub create-kept : (nm : List ℕ) (sz : ℕ) → Kept B img (create B img nm sz .image)
   unfolding createStores
   create-kept nm sz =
-      by-create B img nm sz (KeptLaw B img) (kept-same B img)
+      by-create B img nm sz (Kept B img) (kept-same B img)
       (λ e g. place-keeps B size img (sound-of e) nm (allowed nm (g .named)) sz (freeSlot B (view B img)) (g .slot) (chosen B (view B img) sz) (chosen-inside B size img (sound-of e) sz (g .room)))
 
   -- so does remove
-  pub remove-kept : (nm : List ℕ) → KeptLaw B img (remove B img nm .image)
-  remove-kept nm = by-remove B img nm (KeptLaw B img) (kept-same B img) (λ e l. remove-keeps B size img (sound-of e) nm l)
+  pub remove-kept : (nm : List ℕ) → Kept B img (remove B img nm .image)
+  remove-kept nm = by-remove B img nm (Kept B img) (kept-same B img) (λ e l. remove-keeps B size img (sound-of e) nm l)
 
   -- and write
-  pub write-kept : (h o : ℕ) (buf : List ℕ) → KeptLaw B img (write B img h o buf .image)
+  pub write-kept : (h o : ℕ) (buf : List ℕ) → Kept B img (write B img h o buf .image)
   unfolding request
   write-kept h o buf =
-      by-write B img h o buf (KeptLaw B img) (kept-same B img)
+      by-write B img h o buf (Kept B img) (kept-same B img)
       (λ e. kept-view B img (write B img h o buf .image) (request-view B (omega (arith, size .large)) img e (sound-of e .sound) (wr h o buf)))

@@ -12,7 +12,6 @@ pub mod Changes
 pub mod Orders
 pub mod CreateRemove
 pub mod Handles
-pub mod Laws
 pub mod Formats
 pub mod Reads
 pub mod Kept
@@ -24,4 +23,6 @@ pub mod Touches
 pub mod Rooms
 pub mod HandleSteps
 pub mod IgnoredSteps
-pub mod Demands
+pub mod Offsets
+pub mod Replies
+pub mod Proved

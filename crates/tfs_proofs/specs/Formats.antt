@@ -11,21 +11,22 @@ use lib.Seq.{take-all, getD-append-add}
 use lib.Dec.{T, ltb, eqb, ltb→lt, nltb→le, T-not}
 use Rattle.list_laws.specs.Test.{all-zero, by-test, cond-yes, cond-no, and-l, no-and, yes-yes}
 use Rattle.list_laws.specs.Least.{least-all}
-use Rattle.lists.specs.Lists.{zeros, padTo, part, word, bytes4}
+use Rattle.lists.specs.Lists.{zeros, padTo, part, word, bytes4, withBit}
 use Rattle.list_laws.specs.Part.{getD-part}
 use Rattle.list_laws.specs.Word.{word-bytes4}
-use Rattle.tfs_spec.specs.Layout.{BlockSize, slots, block, magic, volumeName, mapBit, setBits, slot, slotFree, labelAllowed, sameName}
+use Rattle.tfs_spec.specs.Layout.{BlockSize, slots, block, magic, volumeName, mapBit, setBits, slot, slotFree, labelAllowed, sameName, setBit}
 use Rattle.tfs_spec.specs.View.{View, view, free, inode, name, slotOf, slotWith, contents}
 use Rattle.tfs_spec.specs.Check.{tooShort}
 use Rattle.tfs_spec.specs.Consistent.{File, Sound, Consistent}
 use Rattle.tfs_facts.specs.Claims.{slotIn, owns-file}
 use Rattle.tfs_facts.specs.CheckMeans.{check-means}
 use Rattle.tfs_spec.specs.Requests.{done, granted, Outcome, store, storeAll, refuse, formatStores, format, refused}
+use Rattle.tfs_facts.specs.Raw.{head-number, label-byte}
 use Rattle.tfs_facts.specs.Views.{view-head, view-map, view-dir}
 use Rattle.tfs_facts.specs.Stores.{Fits, length-storeAll, stored-first, fits-up, stored-past, stored-at}
 use Rattle.tfs_facts.specs.Entries.{length-pad}
-use Rattle.tfs_laws.specs.Others.{stands-not}
-use Rattle.tfs_laws.specs.Handles.{HandleRefused, handle-refused}
+use Rattle.tfs_proofs.specs.Others.{stands-not}
+use Rattle.tfs_spec.specs.Answers.{Handled}
 use Rattle.tfs_facts.specs.MapBits.{length-setBits}
 use Rattle.tfs_facts.specs.FreshMap.{zeros-byte, formatMap, marked-low, low-marked}
 
@@ -137,8 +138,8 @@ module _ (B : ℕ) (size : BlockSize B) (img label : List ℕ) (long : 3 * B ≤
   formatted-consistent l =
       record {
         long = rw formatted-length long;
-        magical = ap (λ (h : List ℕ). word h 0) formatted-head ∙ word-bytes4 magic (padTo (B - 4) label);
-        labelled = (length label, l, ap (λ (h : List ℕ). getD (volumeName h) (length label) 0) formatted-head ∙ head-end B label (size .large) l);
+        magical = sym (head-number B formatted (omega (arith, size .large))) ∙ ap (λ (h : List ℕ). word h 0) formatted-head ∙ word-bytes4 magic (padTo (B - 4) label);
+        labelled = (length label, l, sym (label-byte B formatted (omega (arith, size .large)) (length label) l) ∙ ap (λ (h : List ℕ). getD (volumeName h) (length label) 0) formatted-head ∙ head-end B label (size .large) l);
         sound = sound-empty B (view B formatted) formatted-free
             (λ b t. low-marked B b (size .large) (subst (λ (m : List ℕ). T (mapBit m b)) formatted-map t))
             (λ b h. subst (λ (m : List ℕ). T (mapBit m b)) (sym formatted-map) (marked-low B b (size .large) h));
@@ -147,10 +148,13 @@ module _ (B : ℕ) (size : BlockSize B) (img label : List ℕ) (long : 3 * B ≤
   formatted-empty : (nm : List ℕ) → contents B formatted nm ≡ none
   formatted-empty nm = stands-not B formatted nm (omega (arith, slotOf-empty B (view B formatted) formatted-free nm))
 
-  formatted-handles : length label < 16 → (h : ℕ) → HandleRefused B formatted h
-  formatted-handles l h =
-      handle-refused B formatted (check-means B size formatted .1 (formatted-consistent l)) h
-      (omega (arith, slotWith-empty B (view B formatted) formatted-free h))
+-- bits 0, 1, 2 of the first word
+three-marked : (n : ℕ) → setBits (zeros (suc (suc (suc (suc n))))) 1 (0 ∷ 1 ∷ 2 ∷ []) ≡ 0 ∷ 0 ∷ 0 ∷ 7 ∷ zeros n
+unfolding setBit withBit
+three-marked n = refl
+
+fits-four : (B : ℕ) → 4 ≤ B → B ≡ suc (suc (suc (suc (B - 4))))
+fits-four B h = omega arith
 
 -- ---- format, granted or refused
 -- what holds of each outcome that format can have
@@ -188,11 +192,11 @@ module _ {B : ℕ} (size : BlockSize B) (img label : List ℕ) where
       by-format B img label (λ o. T (granted (o .answer)) → (nm : List ℕ) → contents B (o .image) nm ≡ none) (λ _ g. absurd g) (λ _ g. absurd g)
       (λ h t _. formatted-empty B size img label h)
 
-  -- so read and write refuse every handle
-  pub format-handles : T (granted (format B img label .answer)) → (h : ℕ) → HandleRefused B (format B img label .image) h
+  -- so no handle means a file
+  pub format-handles : T (granted (format B img label .answer)) → (h s : ℕ) → Handled B (view B (format B img label .image)) h s → ⊥
   format-handles =
-      by-format B img label (λ o. T (granted (o .answer)) → (h : ℕ) → HandleRefused B (o .image) h) (λ _ g. absurd g) (λ _ g. absurd g)
-      (λ k t _. formatted-handles B size img label k (label-short label t))
+      by-format B img label (λ o. T (granted (o .answer)) → (h s : ℕ) → Handled B (view B (o .image)) h s → ⊥) (λ _ g. absurd g) (λ _ g. absurd g)
+      (λ k t _ h s f. T-not (free (view B (formatted B size img label k)) s) (f .file .taken) (formatted-free B size img label k s))
 
   -- "Later blocks are untouched", and so are the bytes past the last block
   pub format-past : (q : ℕ) → 3 * B ≤ q → getD (format B img label .image) q 0 ≡ getD img q 0
@@ -213,10 +217,10 @@ module _ {B : ℕ} (size : BlockSize B) (img label : List ℕ) where
       ∙ ap (λ (x : List ℕ). bytes4 magic ++ (x ++ zeros (B - 4 - length label))) (take-all (B - 4) label (omega (arith, size .large, label-short label t))))
 
   -- block 1: "map bits 0, 1, 2"
-  pub format-map : T (granted (format B img label .answer)) → block B (format B img label .image) 1 ≡ setBits (zeros B) 1 (0 ∷ 1 ∷ 2 ∷ [])
+  pub format-map : T (granted (format B img label .answer)) → block B (format B img label .image) 1 ≡ 0 ∷ 0 ∷ 0 ∷ 7 ∷ zeros (B - 4)
   format-map =
-      by-format B img label (λ o. T (granted (o .answer)) → block B (o .image) 1 ≡ setBits (zeros B) 1 (0 ∷ 1 ∷ 2 ∷ [])) (λ _ g. absurd g) (λ _ g. absurd g)
-      (λ h t _. sym (view-map B (formatted B size img label h)) ∙ formatted-map B size img label h)
+      by-format B img label (λ o. T (granted (o .answer)) → block B (o .image) 1 ≡ 0 ∷ 0 ∷ 0 ∷ 7 ∷ zeros (B - 4)) (λ _ g. absurd g) (λ _ g. absurd g)
+      (λ h t _. sym (view-map B (formatted B size img label h)) ∙ formatted-map B size img label h ∙ ap (λ (n : ℕ). setBits (zeros n) 1 (0 ∷ 1 ∷ 2 ∷ [])) (fits-four B (omega (arith, size .large))) ∙ three-marked (B - 4))
 
   -- block 2: zeros
   pub format-directory : T (granted (format B img label .answer)) → block B (format B img label .image) 2 ≡ zeros B

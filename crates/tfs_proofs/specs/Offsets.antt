@@ -1,0 +1,161 @@
+-- The layout in raw offsets.
+use mathlib.Core.Path.{_≡_, refl, sym, ap, _∙_, subst}
+use mathlib.Core.Logic.{_↔_}
+use Prim.Native.Nat.{ℕ, _+_, _*_, _/_, _%_, _^_, _≤_, _<_}
+use mathlib.Core.List.{List, []}
+use native.Mathlib.Omega.{arith}
+use native.Mathlib.Decide.{decLt}
+use lib.ListN.{length, getD, take, List·getD-eq-default}
+use lib.Seq.{ext-getD, length-take-le, getD-take}
+use lib.Dec.{T, eqb→eq}
+use Rattle.lists.specs.Lists.{word, part, bitOf}
+use Rattle.list_laws.specs.Test.{eqb-of}
+use Rattle.list_laws.specs.Bits.{bit-shift}
+use Rattle.list_laws.specs.Word.{word-cong}
+use Rattle.list_laws.specs.Part.{length-part, getD-part}
+use Rattle.tfs_spec.specs.Layout.{BlockSize, maxBlocks, slots, numbers, block, slot, slotInode, nameField, volumeName, mapBit, inodeSize, inodeNumber}
+use Rattle.tfs_spec.specs.View.{view, free, used, inode, name, size, number, place}
+use Rattle.tfs_spec.specs.Consistent.{Inside}
+use Rattle.tfs_spec.specs.Offsets.{numberAt, Bytes, slotAt, InVolume, NameAt, LayoutLaws}
+use Rattle.tfs_facts.specs.Raw.{word-number, part-number, head-number, label-byte}
+use Rattle.tfs_facts.specs.CheckMeans.{Named, free-means, used-means, name-means, length-field}
+use Rattle.tfs_facts.specs.MapWords.{map-bit-word}
+use Rattle.tfs_facts.specs.Views.{view-n, view-head, view-map, view-dir, length-map, length-dir, inode-block}
+use Rattle.tfs_facts.specs.Stores.{length-block, byte-at}
+
+module _ (B : ℕ) (sz : BlockSize B) (img : List ℕ) (long : 3 * B ≤ length img) where
+  label-length : length (volumeName (view B img .head)) ≡ 16
+  label-length =
+      length-part 4 16 (view B img .head) (omega (arith, sz .large, ap length (view-head B img) ∙ length-block B img 0 (omega arith)))
+
+  -- ---- the map
+  map-byte : (i : ℕ) → i < B → getD (view B img .map) i 0 ≡ getD img (B + i) 0
+  map-byte i h =
+      ap (λ (l : List ℕ). getD l i 0) (view-map B img) ∙ sym (byte-at B img 1 i h) ∙ ap (λ (q : ℕ). getD img q 0) (omega arith)
+
+  map-small : Bytes img → (i : ℕ) → getD (view B img .map) i 0 < 256
+  map-small small i =
+      elim (decLt i B) [
+        | yes h ↦ omega (arith, map-byte i h, small (B + i))
+        | no h ↦ omega (arith, List·getD-eq-default (view B img .map) 0 {n = i} (omega (arith, length-map B img long)))
+      ]
+
+  map-word : (b : ℕ) → b < maxBlocks B → word (view B img .map) (4 * (b / 32)) ≡ numberAt img (B + 4 * (b / 32))
+  map-word b h =
+      let inside : 4 * (b / 32) + 4 ≤ B = omega (arith, sz .whole) in
+      word-cong (view B img .map) img (4 * (b / 32)) (B + 4 * (b / 32)) (λ j k. (map-byte (4 * (b / 32) + j) (omega arith) ∙ ap (λ (q : ℕ). getD img q 0) (omega arith)))
+      ∙ word-number img (B + 4 * (b / 32))
+
+  map-bit : Bytes img → (b : ℕ) → b < maxBlocks B → T (mapBit (view B img .map) b) ↔ (numberAt img (B + 4 * (b / 32)) / 2 ^ (b % 32) % 2 ≡ 1)
+  map-bit small b h =
+      let e : bitOf (word (view B img .map) (4 * (b / 32))) (b % 32) ≡ numberAt img (B + 4 * (b / 32)) / 2 ^ (b % 32) % 2 =
+      sym (bit-shift (word (view B img .map) (4 * (b / 32))) (b % 32)) ∙ ap (λ (n : ℕ). n / 2 ^ (b % 32) % 2) (map-word b h)
+      in
+      let m = map-bit-word (view B img .map) b (map-small small) in (
+        (λ t. sym e ∙ eqb→eq _ 1 (rw m at t)),
+        λ k. rw m (eqb-of (e ∙ k)),
+      )
+
+  -- ---- a slot
+  module _ (s : ℕ) (low : s < slots B) where
+    slot-byte : (j : ℕ) → j < 20 → getD (slot (view B img .dir) s) j 0 ≡ getD img (slotAt B s + j) 0
+    unfolding slot
+    slot-byte j h =
+        getD-part (s * 20) 20 (view B img .dir) j h
+        ∙ ap (λ (l : List ℕ). getD l (s * 20 + j) 0) (view-dir B img)
+        ∙ sym (byte-at B img 2 (s * 20 + j) (omega arith))
+        ∙ ap (λ (q : ℕ). getD img q 0) (omega arith)
+
+    slot-inode : inode (view B img) s ≡ numberAt img (slotAt B s)
+    unfolding inode slotInode
+    slot-inode =
+        word-cong (slot (view B img .dir) s) img 0 (slotAt B s) (λ j k. (slot-byte (0 + j) (omega arith) ∙ ap (λ (q : ℕ). getD img q 0) (omega arith))) ∙ word-number img (slotAt B s)
+
+    slot-free : T (free (view B img) s) ↔ ((i : ℕ) → i < 20 → getD img (slotAt B s + i) 0 ≡ 0)
+    slot-free =
+        let m = free-means B (view B img) s (length-dir B img long) low in
+        ((λ t i h. sym (slot-byte i h) ∙ m .0 t i h), λ f. m .1 (λ i h. (slot-byte i h ∙ f i h)))
+
+    field-byte : (i : ℕ) → i < 16 → getD (nameField (slot (view B img .dir) s)) i 0 ≡ getD img (slotAt B s + 4 + i) 0
+    field-byte i h =
+        getD-part 4 16 (slot (view B img .dir) s) i h ∙ slot-byte (4 + i) (omega arith) ∙ ap (λ (q : ℕ). getD img q 0) (omega arith)
+
+    named-at : (k : ℕ) → Named (nameField (slot (view B img .dir) s)) k → NameAt img (slotAt B s + 4) k
+    named-at k n =
+        record {
+          some = n .some;
+          short = n .short;
+          bytes = λ i h z. n .bytes i h (field-byte i (omega (arith, n .short)) ∙ z);
+          zeros = λ i h l. (sym (field-byte i (omega arith)) ∙ n .zeros i h l);
+        }
+
+    at-named : (k : ℕ) → NameAt img (slotAt B s + 4) k → Named (nameField (slot (view B img .dir) s)) k
+    at-named k n =
+        record {
+          some = n .some;
+          short = n .short;
+          bytes = λ i h z. n .bytes i h (sym (field-byte i (omega (arith, n .short))) ∙ z);
+          zeros = λ i h l. (field-byte i (omega arith) ∙ n .zeros i h l);
+        }
+
+    slot-used : T (used (view B img) s) ↔ (InVolume B img (numberAt img (slotAt B s)) × ((k : ℕ) × NameAt img (slotAt B s + 4) k))
+    slot-used =
+        let m = used-means B (view B img) s (length-dir B img long) low in (
+          (λ t.
+              let u = m .0 t in
+              ((omega (arith, slot-inode, u .0 .low), omega (arith, slot-inode, u .0 .high, view-n B img)), (u .1 .0, named-at (u .1 .0) (u .1 .1)))),
+          λ f.
+              m .1 (
+                record { low = omega (arith, slot-inode, f .0 .0); high = omega (arith, slot-inode, f .0 .1, view-n B img) },
+                (f .1 .0, at-named (f .1 .0) (f .1 .1)),
+              ),
+        )
+
+    slot-name : (k : ℕ) → NameAt img (slotAt B s + 4) k → name (view B img) s ≡ part (slotAt B s + 4) k img
+    slot-name k n =
+        let field : List ℕ = nameField (slot (view B img .dir) s) in
+        let l : length (take k field) ≡ k = length-take-le k field (omega (arith, n .short, length-field B (view B img) s (length-dir B img long) low)) in
+        let r : length (part (slotAt B s + 4) k img) ≡ k = length-part (slotAt B s + 4) k img (omega (arith, n .short)) in
+        name-means B (view B img) s (length-dir B img long) low k (at-named k n)
+        ∙ ext-getD 0 (take k field) (part (slotAt B s + 4) k img) (l ∙ sym r)
+        (λ i h.
+        (getD-take k field i 0 (omega arith) ∙ field-byte i (omega (arith, n .short)) ∙ sym (getD-part (slotAt B s + 4) k img i (omega arith))))
+
+    -- ---- its inode
+    module _ (there : InVolume B img (inode (view B img) s)) where
+      ino-is : getD (view B img .inodes) s [] ≡ block B img (inode (view B img) s)
+      ino-is = inode-block B img s low (record { low = there .0; high = omega (arith, there .1, view-n B img) })
+
+      inode-size : size (view B img) s ≡ numberAt img (inode (view B img) s * B)
+      unfolding size inodeSize block
+      inode-size =
+          ap (λ (l : List ℕ). word l 0) ino-is
+          ∙ part-number (inode (view B img) s * B) B img 0 (omega (arith, sz .large))
+          ∙ ap (numberAt img) (omega arith)
+
+      inode-number : (k : ℕ) → k < numbers B → number (view B img) s k ≡ numberAt img (inode (view B img) s * B + 4 + 4 * k)
+      unfolding number inodeNumber block
+      inode-number k h =
+          ap (λ (l : List ℕ). word l (4 + 4 * k)) ino-is
+          ∙ part-number (inode (view B img) s * B) B img (4 + 4 * k) (omega arith)
+          ∙ ap (numberAt img) (omega arith)
+
+  content-place : (s p : ℕ) → place B (view B img) s p ≡ number (view B img) s (p / B) * B + p % B
+  unfolding place
+  content-place s p = refl
+
+  pub layout-laws : LayoutLaws B img
+  layout-laws =
+      record {
+        magic-number = head-number B img (omega (arith, sz .large));
+        label-length = label-length;
+        label-byte = label-byte B img (omega (arith, sz .large));
+        map-bit = map-bit;
+        slot-inode = slot-inode;
+        slot-free = slot-free;
+        slot-used = slot-used;
+        slot-name = λ s k low n. slot-name s low k n;
+        inode-size = inode-size;
+        inode-number = λ s k low there h. inode-number s low there k h;
+        content-place = content-place;
+      }

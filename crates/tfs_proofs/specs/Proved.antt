@@ -1,0 +1,179 @@
+-- Each statement of tfs_spec has its proof here, under its own name.
+use mathlib.Core.Path.{_≡_, refl, sym, ap, _∙_, subst}
+use Prim.Native.Nat.{ℕ, _*_, _≤_}
+use mathlib.Core.List.{List}
+use native.Mathlib.Omega.{arith}
+use lib.ListN.{length}
+use lib.Dec.{T}
+use Rattle.tfs_spec.specs.Layout.{BlockSize, need, blocks, labelAllowed}
+use Rattle.tfs_spec.specs.View.{view}
+use Rattle.tfs_spec.specs.Check.{check}
+use Rattle.tfs_spec.specs.Consistent.{Consistent}
+use Rattle.tfs_spec.specs.Requests.{Answer, value, granted, format, checkAnswer, read, write, creates, writes, perform, reads, changes}
+use Rattle.tfs_spec.specs.Offsets.{LayoutLaws, NameLaws, NumberLaws}
+use Rattle.tfs_spec.specs.Answers.{LabelRule, unhandled, CheckLaws, RefusalLaws, GrantLaws}
+use Rattle.tfs_spec.specs.Effects.{ContentLaws, ChangeLaws, TouchLaws, FormatLaws, ReadLaws, KeptLaws, RoomLaws}
+use Rattle.tfs_spec.specs.Handles.{HandleLaws}
+use Rattle.tfs_spec.specs.Laws.{RequestLaws}
+use Rattle.tfs_facts.specs.CheckMeans.{check-means, check-breaks, same-means}
+use Rattle.tfs_facts.specs.Total.{adds-up}
+use Rattle.tfs_facts.specs.Views.{view-n}
+use Rattle.tfs_proofs.specs.Offsets as offsets
+use Rattle.tfs_proofs.specs.Content.{content-joined}
+use Rattle.tfs_proofs.specs.Others.{stands, stands-not}
+use Rattle.tfs_proofs.specs.Changes.{changed, stays-consistent, name-on}
+use Rattle.tfs_proofs.specs.Formats.{format-refused, format-grants, format-consistent, format-empty, format-handles, format-past, format-length, format-head, format-map, format-directory}
+use Rattle.tfs_proofs.specs.Reads.{read-law, covers}
+use Rattle.tfs_proofs.specs.Grants.{stands-at, fresh-high, label-allowed, name-allowed, format-rule, rule-reply, create-grants}
+use Rattle.tfs_proofs.specs.Answers.{format-numbered}
+use Rattle.tfs_proofs.specs.Replies.{told-done, told-broken, faulty, fault-reply, numbered, keeps, kept, ignored-reply, tail-kept-by, tail-unread-by}
+use Rattle.tfs_proofs.specs.Tail.{tail-kept, tail-unread}
+use Rattle.tfs_proofs.specs.IgnoredSteps.{same-after-all}
+use Rattle.tfs_proofs.specs.Touches.{remove-touches, create-touches}
+use Rattle.tfs_proofs.specs.Rooms.{removed-room, created-room, written-room}
+use Rattle.tfs_proofs.specs.Handles.{open-means}
+use Rattle.tfs_proofs.specs.HandleSteps.{means-file, step-gone, step-none, step-new, handles-law}
+use Rattle.tfs_proofs.specs.HandleSteps as steps
+use Rattle.tfs_proofs.specs.WriteLists.{writes-law, pieces-law}
+use Rattle.tfs_proofs.specs.CreateRemove.{back-law}
+use Rattle.tfs_proofs.specs.Orders.{orders-law}
+
+-- ---- Offsets
+pub layout-laws : (B : ℕ) → BlockSize B → (img : List ℕ) → 3 * B ≤ length img → LayoutLaws B img
+layout-laws = offsets.layout-laws
+
+pub name-laws : NameLaws
+name-laws = record { same = same-means }
+
+pub number-laws : NumberLaws
+unfolding blocks need
+number-laws =
+    record {
+      large = λ img h. omega arith;
+      small = λ img h. omega arith;
+      directory = refl;
+      inode = refl;
+      file = refl;
+      enough = λ z. omega arith;
+      tight = λ z. omega arith;
+    }
+
+-- ---- Answers
+pub check-laws : (B : ℕ) → BlockSize B → (img : List ℕ) → CheckLaws B img
+unfolding checkAnswer
+check-laws B sz img =
+    let means = check-means B sz img in
+    let says = check-breaks B sz img in
+    record {
+      passes = means;
+      grants = ((λ e. means .0 (told-done (check B img) .0 e)), λ ok. told-done (check B img) .1 (means .1 ok));
+      breaks = says;
+      refuses = λ num p.
+          ((λ e. says num p .0 (told-broken (check B img) num p .0 e)), λ first. told-broken (check B img) num p .1 (says num p .1 first));
+      faulty = faulty B sz img;
+      refused-by-all = fault-reply B sz img;
+    }
+
+pub refusal-laws : (B : ℕ) → BlockSize B → (img : List ℕ) → RefusalLaws B img
+refusal-laws B sz img =
+    record {
+      numbered = numbered B sz img;
+      format-numbered = λ label. format-numbered B img label (format B img label .answer) (format-rule B img label (format B img label .answer) .0 refl);
+      keeps = keeps B img;
+      format-keeps = format-refused B img;
+    }
+
+pub grant-laws : (B : ℕ) → BlockSize B → (img : List ℕ) → GrantLaws B img
+grant-laws B sz img =
+    record {
+      answers = rule-reply B sz img;
+      creating = create-grants B sz img;
+      formatting = format-rule B img;
+      name-allowed = name-allowed;
+      label-allowed = label-allowed;
+    }
+
+-- ---- Effects
+pub content-laws : (B : ℕ) → BlockSize B → (img : List ℕ) → Consistent B img → ContentLaws B img
+content-laws B sz img ok =
+    record {
+      file = content-joined B sz img ok;
+      named = λ nm s st. stands B img nm s (stands-at B (view B img) nm (ok .sound) s st) (st .file .slot);
+      absent = λ nm none. stands-not B img nm (fresh-high B (view B img) nm none);
+    }
+
+pub change-laws : (B : ℕ) → BlockSize B → (img : List ℕ) → Consistent B img → ChangeLaws B img
+change-laws B sz img ok =
+    record { stays = stays-consistent B sz img ok; changes = λ c g. changed B sz img ok c g .contents; name-on = name-on B sz img ok }
+
+pub touch-laws : (B : ℕ) → BlockSize B → (img : List ℕ) → Consistent B img → TouchLaws B img
+touch-laws B sz img ok = record { created = create-touches B sz img ok; removed = remove-touches B sz img ok }
+
+pub format-laws : (B : ℕ) → BlockSize B → (img label : List ℕ) → 3 * B ≤ length img → LabelRule label → FormatLaws B img label
+format-laws B sz img label h l =
+    let t : T (labelAllowed label) = label-allowed label .1 l in
+    let g : T (granted (format B img label .answer)) = subst (λ (a : Answer). T (granted a)) (sym (format-grants sz img label h t)) tt in
+    record {
+      answer = format-grants sz img label h t;
+      consistent = format-consistent sz img label g;
+      empty = format-empty sz img label g;
+      handles = format-handles sz img label g;
+      head = format-head sz img label g;
+      map = format-map sz img label g;
+      directory = format-directory sz img label g;
+      past = format-past sz img label;
+      long = format-length sz img label;
+    }
+
+pub read-laws : (B : ℕ) (img : List ℕ) (h o : ℕ) (buf : List ℕ) (c : ℕ) → read B img h o buf .answer ≡ value c → ReadLaws B img h o buf c
+read-laws = read-law
+
+pub kept-laws : (B : ℕ) → BlockSize B → (img : List ℕ) → KeptLaws B img
+kept-laws B sz img =
+    record {
+      kept = kept B sz img;
+      ignored = ignored-reply B sz img;
+      ignored-after = same-after-all B sz img;
+      tail-kept = tail-kept-by B sz img;
+      tail-formatted = tail-kept sz img .formatted;
+      tail-unread = tail-unread-by B sz img;
+      tail-format = λ b same label. (tail-unread sz img b same .format-answer label, tail-unread sz img b same .formatted label);
+    }
+
+pub room-laws : (B : ℕ) → BlockSize B → (img : List ℕ) → Consistent B img → RoomLaws B img
+unfolding perform
+room-laws B sz img ok =
+    record {
+      total = adds-up B sz img ok ∙ view-n B img;
+      freed = removed-room B sz img ok;
+      taken = created-room B sz img ok;
+      written = written-room B sz img ok;
+    }
+
+-- ---- Handles
+pub handle-laws : (B : ℕ) → BlockSize B → (img : List ℕ) → Consistent B img → HandleLaws B img
+unfolding perform
+handle-laws B sz img ok =
+    record {
+      opened = λ nm h e. means-file B (view B img) (ok .sound) h nm .0 (open-means B sz img ok nm h e);
+      created = step-new B sz img ok;
+      none-read = λ h none o buf. rule-reply B sz img ok (reads h o buf) _ .1 (unhandled none);
+      none-written = λ h none o bs. rule-reply B sz img ok (changes (writes h o bs)) _ .1 (unhandled none);
+      removed = λ nm h w. step-gone B sz img ok h nm w;
+      retaken = steps.retaken B sz img ok;
+      left = steps.left B sz img ok;
+      consistent = λ cs. handles-law B sz img ok cs .consistent;
+      file = λ cs. handles-law B sz img ok cs .file;
+      none = λ cs. handles-law B sz img ok cs .none;
+    }
+
+-- ---- Laws
+pub request-laws : (B : ℕ) → BlockSize B → (img : List ℕ) → Consistent B img → RequestLaws B img
+request-laws B sz img ok =
+    record {
+      writes = writes-law B (omega (arith, sz .large)) img (check-means B sz img .1 ok) (ok .sound);
+      covers = covers B sz img ok;
+      pieces = λ h o bs. pieces-law B (omega (arith, sz .large)) h bs o img (check-means B sz img .1 ok) (ok .sound);
+      back = back-law B sz img ok;
+      orders = orders-law B sz img ok;
+    }

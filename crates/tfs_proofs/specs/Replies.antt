@@ -1,0 +1,126 @@
+-- What holds of every request, request by request.
+use mathlib.Core.Path.{_≡_, refl, sym, ap, ap₂, _∙_, subst}
+use mathlib.Core.Logic.{_↔_}
+use mathlib.Core.Bool.{not}
+use Prim.Native.Nat.{ℕ, _≤_}
+use mathlib.Core.List.{List, [], _∷_}
+use native.Mathlib.Omega.{arith}
+use lib.ListN.{length}
+use lib.Dec.{T}
+use Rattle.tfs_spec.specs.Layout.{BlockSize}
+use Rattle.tfs_spec.specs.View.{view, inode}
+use Rattle.tfs_spec.specs.Check.{Verdict, consistent, broken, check}
+use Rattle.tfs_spec.specs.Consistent.{Consistent, FirstBroken}
+use Rattle.tfs_spec.specs.Requests.{Answer, done, refused, granted, checked, Filled, checkAnswer, openAnswer, create, remove, read, write, listAnswer, freeAnswer, Change, creates, removes, writes, perform, Request, changes, checks, opens, reads, lists, counts, lent, reply}
+use Rattle.tfs_spec.specs.Answers.{Numbered, checkThen, ownNumbers, Rule}
+use Rattle.tfs_spec.specs.Effects.{SameRead, Beyond, SameVolume, Kept}
+use Rattle.tfs_facts.specs.CheckMeans.{check-means, check-breaks}
+use Rattle.tfs_proofs.specs.Changes.{refused-keeps}
+use Rattle.tfs_proofs.specs.Reads.{read-refused}
+use Rattle.tfs_proofs.specs.Grants.{rule-reply}
+use Rattle.tfs_proofs.specs.Answers.{broken-numbered, find-numbered, create-numbered, transfer-numbered, list-numbered}
+use Rattle.tfs_proofs.specs.Kept.{create-kept, remove-kept, write-kept}
+use Rattle.tfs_proofs.specs.Ignored.{IgnoredLaw, ignored}
+use Rattle.tfs_proofs.specs.Tail.{TailKept, tail-kept, TailLaw, tail-unread}
+
+-- ---- the check's answer tells the verdict
+pub told-done : (x : Verdict) → (checked x refused done ≡ done) ↔ (x ≡ consistent)
+told-done consistent = ((λ _. refl), λ _. refl)
+told-done (broken num p) =
+    ((λ e. absurd (let z : _≡_ {A = ℕ} 0 1 = cc in omega arith)), λ e. absurd (let z : _≡_ {A = ℕ} 0 1 = cc in omega arith))
+
+pub told-broken : (x : Verdict) (num p : ℕ) → (checked x refused done ≡ refused num p) ↔ (x ≡ broken num p)
+told-broken consistent num p =
+    ((λ e. absurd (let z : _≡_ {A = ℕ} 0 1 = cc in omega arith)), λ e. absurd (let z : _≡_ {A = ℕ} 0 1 = cc in omega arith))
+told-broken (broken m q) num p = ((λ e. ap₂ broken (cc) (cc)), λ e. ap₂ refused (cc) (cc))
+
+-- ---- a volume that breaks a rule
+pub faulty : (B : ℕ) → BlockSize B → (img : List ℕ) → (Consistent B img → ⊥) → (num : ℕ) × (p : ℕ) × FirstBroken B img num p
+faulty B sz img bad = go (check B img) refl
+  where
+    go : (x : Verdict) → check B img ≡ x → (num : ℕ) × (p : ℕ) × FirstBroken B img num p
+    go consistent e = absurd (bad (check-means B sz img .0 e))
+    go (broken num p) e = (num, p, check-breaks B sz img num p .0 e)
+
+pub fault-reply : (B : ℕ) → BlockSize B → (img : List ℕ) (num p : ℕ) → FirstBroken B img num p → (r : Request) → reply B img r ≡ record { answer = refused num p; image = img; buffer = lent r }
+unfolding perform create remove write checkAnswer openAnswer read listAnswer freeAnswer
+fault-reply B sz img num p first (changes (creates nm z)) = rw (check-breaks B sz img num p .1 first)
+fault-reply B sz img num p first (changes (removes nm)) = rw (check-breaks B sz img num p .1 first)
+fault-reply B sz img num p first (changes (writes h o bs)) = rw (check-breaks B sz img num p .1 first)
+fault-reply B sz img num p first checks = rw (check-breaks B sz img num p .1 first)
+fault-reply B sz img num p first (opens nm) = rw (check-breaks B sz img num p .1 first)
+fault-reply B sz img num p first (reads h o buf) = rw (check-breaks B sz img num p .1 first)
+fault-reply B sz img num p first (lists s) = rw (check-breaks B sz img num p .1 first)
+fault-reply B sz img num p first counts = rw (check-breaks B sz img num p .1 first)
+
+-- ---- the numbers of refusals
+rule-numbered : (B : ℕ) (img : List ℕ) (r : Request) (a : Answer) → Rule B (view B img) r a → Numbered (checkThen (ownNumbers r)) a
+rule-numbered B img (changes (creates nm z)) a w = create-numbered B (view B img) nm z a w
+rule-numbered B img (changes (removes nm)) a w = find-numbered B (view B img) nm (λ s. done) (λ s. tt) a w
+rule-numbered B img (changes (writes h o bs)) a w = transfer-numbered B (view B img) h o (length bs) a w
+rule-numbered B img checks a w = subst (Numbered (checkThen [])) w tt
+rule-numbered B img (opens nm) a w = find-numbered B (view B img) nm _ (λ s. tt) a w
+rule-numbered B img (reads h o buf) a w = transfer-numbered B (view B img) h o (length buf) a w
+rule-numbered B img (lists s) a w = list-numbered B (view B img) s a w
+rule-numbered B img counts a w = subst (Numbered (checkThen [])) w tt
+
+pub numbered : (B : ℕ) → BlockSize B → (img : List ℕ) (r : Request) → Numbered (checkThen (ownNumbers r)) (reply B img r .answer)
+numbered B sz img r = go (check B img) refl
+  where
+    go : (x : Verdict) → check B img ≡ x → Numbered (checkThen (ownNumbers r)) (reply B img r .answer)
+    go consistent e = rule-numbered B img r (reply B img r .answer) (rule-reply B sz img (check-means B sz img .0 e) r (reply B img r .answer) .0 refl)
+    go (broken num p) e =
+        let first : FirstBroken B img num p = check-breaks B sz img num p .0 e in
+        subst (Numbered (checkThen (ownNumbers r))) (sym (ap (λ x. x .answer) (fault-reply B sz img num p first r))) (broken-numbered B img (ownNumbers r) num p (first .here))
+
+-- ---- a refusal leaves image and buffer
+pub keeps : (B : ℕ) (img : List ℕ) (r : Request) → T (not (granted (reply B img r .answer))) → (reply B img r .image ≡ img) × (reply B img r .buffer ≡ lent r)
+keeps B img (changes c) t = (refused-keeps B img c t, refl)
+keeps B img checks t = (refl, refl)
+keeps B img (opens nm) t = (refl, refl)
+keeps B img (reads h o buf) t = (refl, read-refused B img h o buf t)
+keeps B img (lists s) t = (refl, refl)
+keeps B img counts t = (refl, refl)
+
+-- ---- what is kept and what is ignored
+pub kept : (B : ℕ) → BlockSize B → (img : List ℕ) (c : Change) → Kept B img (perform B img c .image)
+unfolding perform
+kept B sz img (creates nm z) = create-kept sz img nm z
+kept B sz img (removes nm) = remove-kept sz img nm
+kept B sz img (writes h o bs) = write-kept sz img h o bs
+
+pub ignored-reply : (B : ℕ) → BlockSize B → (a b : List ℕ) → SameRead B a b → (r : Request) → (reply B a r .answer ≡ reply B b r .answer) × (reply B a r .buffer ≡ reply B b r .buffer)
+unfolding perform checkAnswer
+ignored-reply B sz a b same (changes (creates nm z)) = (ignored B sz a b same .create-same nm z, refl)
+ignored-reply B sz a b same (changes (removes nm)) = (ignored B sz a b same .remove-same nm, refl)
+ignored-reply B sz a b same (changes (writes h o bs)) = (ignored B sz a b same .write-same h o bs, refl)
+ignored-reply B sz a b same checks = (ap (λ (x : Verdict). checked x refused done) (ignored B sz a b same .check-same), refl)
+ignored-reply B sz a b same (opens nm) = (ignored B sz a b same .open-same nm, refl)
+ignored-reply B sz a b same (reads h o buf) =
+    (ap (λ (f : Filled). f .answer) (ignored B sz a b same .read-same h o buf), ap (λ (f : Filled). f .buffer) (ignored B sz a b same .read-same h o buf))
+ignored-reply B sz a b same (lists s) = (ignored B sz a b same .list-same s, refl)
+ignored-reply B sz a b same counts = (ignored B sz a b same .free-same, refl)
+
+-- ---- bytes from B·N on
+pub tail-kept-by : (B : ℕ) → BlockSize B → (img : List ℕ) (r : Request) → Beyond B img (reply B img r .image)
+unfolding perform
+tail-kept-by B sz img (changes (creates nm z)) = tail-kept sz img .created nm z
+tail-kept-by B sz img (changes (removes nm)) = tail-kept sz img .removed nm
+tail-kept-by B sz img (changes (writes h o bs)) = tail-kept sz img .written h o bs
+tail-kept-by B sz img checks = record { long = refl; bytes = λ q h. refl }
+tail-kept-by B sz img (opens nm) = record { long = refl; bytes = λ q h. refl }
+tail-kept-by B sz img (reads h o buf) = record { long = refl; bytes = λ q h. refl }
+tail-kept-by B sz img (lists s) = record { long = refl; bytes = λ q h. refl }
+tail-kept-by B sz img counts = record { long = refl; bytes = λ q h. refl }
+
+pub tail-unread-by : (B : ℕ) → BlockSize B → (a b : List ℕ) → SameVolume B a b → (r : Request) → (reply B a r .answer ≡ reply B b r .answer) × (reply B a r .buffer ≡ reply B b r .buffer) × SameVolume B (reply B a r .image) (reply B b r .image)
+unfolding perform
+tail-unread-by B sz a b same (changes (creates nm z)) = (tail-unread sz a b same .create-answer nm z, refl, tail-unread sz a b same .created nm z)
+tail-unread-by B sz a b same (changes (removes nm)) = (tail-unread sz a b same .remove-answer nm, refl, tail-unread sz a b same .removed nm)
+tail-unread-by B sz a b same (changes (writes h o bs)) = (tail-unread sz a b same .write-answer h o bs, refl, tail-unread sz a b same .written h o bs)
+tail-unread-by B sz a b same checks = (tail-unread sz a b same .check-answer, refl, same)
+tail-unread-by B sz a b same (opens nm) = (tail-unread sz a b same .open-answer nm, refl, same)
+tail-unread-by B sz a b same (reads h o buf) =
+    (ap (λ (f : Filled). f .answer) (tail-unread sz a b same .read-outcome h o buf), ap (λ (f : Filled). f .buffer) (tail-unread sz a b same .read-outcome h o buf), same)
+tail-unread-by B sz a b same (lists s) = (tail-unread sz a b same .list-answer s, refl, same)
+tail-unread-by B sz a b same counts = (tail-unread sz a b same .free-answer, refl, same)

@@ -1,0 +1,168 @@
+-- The check and the answers of requests, in plain facts: demand 1, and of demand 2 "granted exactly when the rules grant it".
+use mathlib.Core.Path.{_≡_}
+use mathlib.Core.Logic.{_≢_, _↔_}
+use mathlib.Core.Bool.{true, false, not}
+use Prim.Native.Nat.{ℕ, _+_, _-_, _*_, _≤_, _<_, min}
+use mathlib.Core.List.{List, [], _∷_}
+use lib.ListN.{length, getD}
+use lib.Dec.{T}
+use Rattle.lists.specs.Lists.{In}
+use Rattle.tfs_spec.specs.Layout.{BlockSize, slots, maxSize, need, mapBit, labelAllowed, nameAllowed}
+use Rattle.tfs_spec.specs.View.{View, view, free, inode, name, size, freeBlocks}
+use Rattle.tfs_spec.specs.Check.{consistent, broken, check}
+use Rattle.tfs_spec.specs.Consistent.{File, Consistent, FirstBroken}
+use Rattle.tfs_spec.specs.Requests.{Answer, done, value, unused, file, refused, granted, format, checkAnswer, create, Change, creates, removes, writes, Request, changes, checks, opens, reads, lists, counts, lent, reply}
+
+-- ---- the check
+pub record CheckLaws (B : ℕ) (img : List ℕ) : Type 0 where
+  -- it grants exactly the consistent volumes
+  pub passes : (check B img ≡ consistent) ↔ Consistent B img
+  pub grants : (checkAnswer B img ≡ done) ↔ Consistent B img
+  -- and otherwise gives the first broken rule at its lowest place
+  pub breaks : (num p : ℕ) → (check B img ≡ broken num p) ↔ FirstBroken B img num p
+  pub refuses : (num p : ℕ) → (checkAnswer B img ≡ refused num p) ↔ FirstBroken B img num p
+  -- "Every request but format refuses a volume that breaks the consistency rules, with the first fault and its place"
+  pub faulty : (Consistent B img → ⊥) → (num : ℕ) × (p : ℕ) × FirstBroken B img num p
+  pub refused-by-all : (num p : ℕ) → FirstBroken B img num p → (r : Request) → reply B img r ≡ record { answer = refused num p; image = img; buffer = lent r }
+
+-- ---- refusals
+-- a grant, or a refusal with one of the numbers; "Refusals 8 to 15 have place 0"
+abbrev pub Numbered : List ℕ → Answer → Type 0
+Numbered nums done = Unit {0}
+Numbered nums (value x) = Unit {0}
+Numbered nums unused = Unit {0}
+Numbered nums (file nm i z) = Unit {0}
+Numbered nums (refused num p) = In num nums × (8 ≤ num → p ≡ 0)
+
+-- the check's numbers, and then the request's own
+abbrev pub checkThen : List ℕ → List ℕ
+checkThen own = 1 ∷ 2 ∷ 3 ∷ 4 ∷ 5 ∷ 6 ∷ 7 ∷ own
+
+abbrev pub ownNumbers : Request → List ℕ
+ownNumbers (changes (creates nm z)) = 8 ∷ 9 ∷ 10 ∷ 11 ∷ 12 ∷ []
+ownNumbers (changes (removes nm)) = 8 ∷ 13 ∷ []
+ownNumbers (changes (writes h o bs)) = 14 ∷ 15 ∷ []
+ownNumbers checks = []
+ownNumbers (opens nm) = 8 ∷ 13 ∷ []
+ownNumbers (reads h o buf) = 14 ∷ 15 ∷ []
+ownNumbers (lists s) = 14 ∷ []
+ownNumbers counts = []
+
+-- of every image, consistent or not
+pub record RefusalLaws (B : ℕ) (img : List ℕ) : Type 0 where
+  -- "it ends with a result or one refusal from the numbered table"
+  pub numbered : (r : Request) → Numbered (checkThen (ownNumbers r)) (reply B img r .answer)
+  pub format-numbered : (label : List ℕ) → Numbered (1 ∷ 8 ∷ []) (format B img label .answer)
+  -- "A refused request changes no byte of the image or of any buffer"
+  pub keeps : (r : Request) → T (not (granted (reply B img r .answer))) → (reply B img r .image ≡ img) × (reply B img r .buffer ≡ lent r)
+  pub format-keeps : (label : List ℕ) → T (not (granted (format B img label .answer))) → format B img label .image ≡ img
+
+-- ---- which answer each request gives: one table a request, with a line for each of its answers
+-- at most 15 bytes, none of them zero: what format takes as the volume's name
+abbrev pub LabelRule : List ℕ → Type 0
+LabelRule l = (length l ≤ 15) × ((i : ℕ) → i < length l → getD l i 0 ≢ 0)
+
+-- 1 to 15 bytes, none of them zero
+abbrev pub NameRule : List ℕ → Type 0
+NameRule nm = (1 ≤ length nm) × LabelRule nm
+
+-- the file in slot s has the name nm
+pub record Stands (B : ℕ) (v : View) (nm : List ℕ) (s : ℕ) : Type 0 where
+  pub file : File B v s
+  pub named : name v s ≡ nm
+
+-- no file has the name nm
+abbrev pub Fresh : ℕ → View → List ℕ → Type 0
+Fresh B v nm = (s : ℕ) → Stands B v nm s → ⊥
+
+-- the file in slot s has the inode number h
+pub record Handled (B : ℕ) (v : View) (h s : ℕ) : Type 0 where
+  pub file : File B v s
+  pub number : inode v s ≡ h
+
+-- slot s is free
+pub record Vacant (B : ℕ) (v : View) (s : ℕ) : Type 0 where
+  pub slot : s < slots B
+  pub free : T (free v s)
+
+-- h is the lowest block of the volume that the map does not mark
+pub record LowestBlock (v : View) (h : ℕ) : Type 0 where
+  pub below : h < v .n
+  pub clear : mapBit (v .map) h ≡ false
+  pub marked : (i : ℕ) → i < h → mapBit (v .map) i ≡ true
+
+-- open and remove
+pub data FindRule (B : ℕ) (v : View) (nm : List ℕ) (grant : ℕ → Answer) : Answer → Type 0 where
+  -- 8: "name empty, over 15 bytes, or holding a zero byte"
+  misnamed : (NameRule nm → ⊥) → FindRule B v nm grant (refused 8 0)
+  -- 13: "name doesn't stand"
+  absent : NameRule nm → Fresh B v nm → FindRule B v nm grant (refused 13 0)
+  -- granted, on the file in slot s
+  found : (s : ℕ) → NameRule nm → Stands B v nm s → FindRule B v nm grant (grant s)
+
+pub data CreateRule (B : ℕ) (v : View) (nm : List ℕ) (z : ℕ) : Answer → Type 0 where
+  -- 8: "name empty, over 15 bytes, or holding a zero byte"
+  unnamed : (NameRule nm → ⊥) → CreateRule B v nm z (refused 8 0)
+  -- 9: "size over 65,024"
+  oversized : NameRule nm → maxSize B < z → CreateRule B v nm z (refused 9 0)
+  -- 10: "name stands already"
+  standing : (s : ℕ) → NameRule nm → z ≤ maxSize B → Stands B v nm s → CreateRule B v nm z (refused 10 0)
+  -- 11: "no free slot"
+  full : NameRule nm → z ≤ maxSize B → Fresh B v nm → ((s : ℕ) → Vacant B v s → ⊥) → CreateRule B v nm z (refused 11 0)
+  -- 12: "fewer than 1 + ⌈size/512⌉ zero bits below N"
+  cramped : (s : ℕ) → NameRule nm → z ≤ maxSize B → Fresh B v nm → Vacant B v s → freeBlocks v < 1 + need B z → CreateRule B v nm z (refused 12 0)
+  -- granted: "lowest free block becomes the inode"; "Result: the inode number"
+  created : (s h : ℕ) → NameRule nm → z ≤ maxSize B → Fresh B v nm → Vacant B v s → 1 + need B z ≤ freeBlocks v → LowestBlock v h → CreateRule B v nm z (value h)
+
+-- read and write
+pub data TransferRule (B : ℕ) (v : View) (h o len : ℕ) : Answer → Type 0 where
+  -- 14: "handle is no used slot's inode number"
+  unhandled : ((s : ℕ) → Handled B v h s → ⊥) → TransferRule B v h o len (refused 14 0)
+  -- 15: "offset greater than size"
+  beyond : (s : ℕ) → Handled B v h s → size v s < o → TransferRule B v h o len (refused 15 0)
+  -- granted: "count = smaller of buffer length and size − offset"
+  moved : (s : ℕ) → Handled B v h s → o ≤ size v s → TransferRule B v h o len (value (min len (size v s - o)))
+
+pub data ListRule (B : ℕ) (v : View) (s : ℕ) : Answer → Type 0 where
+  -- 14: "slot over 24"
+  outside : slots B ≤ s → ListRule B v s (refused 14 0)
+  -- "a free slot, or name, inode number and size"
+  vacant : Vacant B v s → ListRule B v s unused
+  holds : File B v s → ListRule B v s (file (name v s) (inode v s) (size v s))
+
+pub data FormatRule (B : ℕ) (img label : List ℕ) : Answer → Type 0 where
+  -- 1: "image under 1,536 bytes"
+  short : length img < 3 * B → FormatRule B img label (refused 1 0)
+  -- 8: "format allows empty"
+  unlabelled : 3 * B ≤ length img → (LabelRule label → ⊥) → FormatRule B img label (refused 8 0)
+  -- granted
+  formatted : 3 * B ≤ length img → LabelRule label → FormatRule B img label done
+
+-- the table of a request; check and free bytes have one answer each
+abbrev pub Rule : ℕ → View → Request → Answer → Type 0
+Rule B v (changes (creates nm z)) a = CreateRule B v nm z a
+Rule B v (changes (removes nm)) a = FindRule B v nm (λ s. done) a
+Rule B v (changes (writes h o bs)) a = TransferRule B v h o (length bs) a
+Rule B v checks a = done ≡ a
+Rule B v (opens nm) a = FindRule B v nm (λ s. value (inode v s)) a
+Rule B v (reads h o buf) a = TransferRule B v h o (length buf) a
+Rule B v (lists s) a = ListRule B v s a
+Rule B v counts a = value (B * freeBlocks v) ≡ a
+
+-- what create asks: all of it, and no more
+pub record CreateGranted (B : ℕ) (v : View) (nm : List ℕ) (z : ℕ) : Type 0 where
+  pub named : NameRule nm
+  pub small : z ≤ maxSize B
+  pub fresh : Fresh B v nm
+  pub slot : (s : ℕ) × Vacant B v s
+  pub room : 1 + need B z ≤ freeBlocks v
+
+pub record GrantLaws (B : ℕ) (img : List ℕ) : Type 0 where
+  -- "On a consistent volume every request is granted exactly when the written .. rules grant it": an answer is given exactly in its case of the table
+  pub answers : Consistent B img → (r : Request) (a : Answer) → (reply B img r .answer ≡ a) ↔ Rule B (view B img) r a
+  pub creating : Consistent B img → (nm : List ℕ) (z : ℕ) → T (granted (create B img nm z .answer)) ↔ CreateGranted B (view B img) nm z
+  -- format's, of any image
+  pub formatting : (label : List ℕ) (a : Answer) → (format B img label .answer ≡ a) ↔ FormatRule B img label a
+  -- which names requests take, and which format takes as the volume's
+  pub name-allowed : (nm : List ℕ) → T (nameAllowed nm) ↔ NameRule nm
+  pub label-allowed : (l : List ℕ) → T (labelAllowed l) ↔ LabelRule l

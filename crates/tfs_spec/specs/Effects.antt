@@ -1,0 +1,197 @@
+-- What granted requests do and what they leave, in plain facts: of demand 2 "with the effect they give and no other".
+use mathlib.Core.Path.{_≡_}
+use mathlib.Core.Logic.{_⊎_}
+use mathlib.Core.Bool.{true, false, not, cond, _&&_}
+use Prim.Native.Nat.{ℕ, suc, _+_, _-_, _*_, _/_, _≤_, _<_, min}
+use mathlib.Core.List.{List, _∷_, _++_}
+use mathlib.Core.Option.{Option, none, some, Option·map}
+use lib.ListN.{length, getD, take, drop}
+use lib.Dec.{T, leb, ltb}
+use Rattle.lists.specs.Lists.{In, sum, table, joined, zeros, padTo, bytes4, words, part}
+use Rattle.tfs_spec.specs.Layout.{slots, need, blocks, block, mapBit, slot, sameName, inodeSize, inodeNumber}
+use Rattle.tfs_spec.specs.View.{View, view, free, inode, name, size, number, slotWith, content, Contents, contents, freeBlocks}
+use Rattle.tfs_spec.specs.Consistent.{File, Consistent}
+use Rattle.tfs_spec.specs.Requests.{done, value, granted, format, create, remove, read, Change, creates, removes, writes, perform, Request, reply, afterAll}
+use Rattle.tfs_spec.specs.Answers.{LabelRule, Stands, Fresh, Handled, Vacant}
+
+-- ---- the content of files, and what stands under a name
+pub record ContentLaws (B : ℕ) (img : List ℕ) : Type 0 where
+  -- "A file's content is the first size bytes of its listed blocks in order"
+  pub file : (s : ℕ) → File B (view B img) s → content B (view B img) img s ≡ take (size (view B img) s) (joined (table (λ k. block B img (number (view B img) s k)) 0 (need B (size (view B img) s))))
+  -- under a name stands the content of the file with that name, or none
+  pub named : (nm : List ℕ) (s : ℕ) → Stands B (view B img) nm s → contents B img nm ≡ some (content B (view B img) img s)
+  pub absent : (nm : List ℕ) → Fresh B (view B img) nm → contents B img nm ≡ none
+
+-- ---- create, remove and write as changes of what stands under one name
+-- what stands under k becomes g of it
+abbrev pub change : List ℕ → (Option (List ℕ) → Option (List ℕ)) → Contents → Contents
+change k g c j = cond (sameName j k) (g (c j)) (c j)
+
+-- create: zeros of the asked size
+abbrev pub made : ℕ → Option (List ℕ) → Option (List ℕ)
+made sz old = some (zeros sz)
+
+-- remove
+abbrev pub gone : Option (List ℕ) → Option (List ℕ)
+gone old = none
+
+-- write: bytes laid over a content from o on, as far as it reaches
+abbrev pub over : ℕ → List ℕ → List ℕ → List ℕ
+over o bs old = table (λ p. cond (leb o p && ltb p (o + length bs)) (getD bs (p - o) 0) (getD old p 0)) 0 (length old)
+
+abbrev pub wrote : ℕ → List ℕ → Option (List ℕ) → Option (List ℕ)
+wrote o bs = Option·map (over o bs)
+
+abbrev pub effectOf : Change → Option (List ℕ) → Option (List ℕ)
+effectOf (creates nm z) = made z
+effectOf (removes nm) = gone
+effectOf (writes h o bs) = wrote o bs
+
+-- the name that a request is on; "a write's name is that of the file its handle means"
+unfoldable pub nameOn : ℕ → View → Change → List ℕ
+nameOn B v (creates nm z) = nm
+nameOn B v (removes nm) = nm
+nameOn B v (writes h o bs) = name v (slotWith B v h)
+
+pub record ChangeLaws (B : ℕ) (img : List ℕ) : Type 0 where
+  -- "The volume stays consistent", whatever is asked
+  pub stays : (c : Change) → Consistent B (perform B img c .image)
+  -- one name changes; "other files keep their bytes"
+  pub changes : (c : Change) → T (granted (perform B img c .answer)) → (j : List ℕ) → contents B (perform B img c .image) j ≡ change (nameOn B (view B img) c) (effectOf c) (contents B img) j
+  pub name-on : (h o : ℕ) (bs : List ℕ) (s : ℕ) → Handled B (view B img) h s → nameOn B (view B img) (writes h o bs) ≡ name (view B img) s
+
+-- ---- what create, remove and format set in the image, and that all else stays
+-- bytes outside blocks 1 and 2
+abbrev pub Outside : ℕ → ℕ → Type 0
+Outside B q = (q < B) ⊎ (3 * B ≤ q)
+
+-- block b is the inode of the file in slot s, or one of its content blocks
+abbrev pub BlockOf : ℕ → View → ℕ → ℕ → Type 0
+BlockOf B v s b = (inode v s ≡ b) ⊎ ((k : ℕ) × (k < need B (size v s)) × (number v s k ≡ b))
+
+-- remove of the file in slot s
+pub record RemoveTouch (B : ℕ) (img new : List ℕ) (s : ℕ) : Type 0 where
+  -- "clears the bits of inode and content"
+  pub cleared : (b : ℕ) → BlockOf B (view B img) s b → mapBit (block B new 1) b ≡ false
+  -- "zeros the 20 bytes of the slot"
+  pub zeroed : (i : ℕ) → i < 20 → getD (block B new 2) (s * 20 + i) 0 ≡ 0
+  -- "touches nothing else": the other bits of block 1, the other bytes of block 2, and all of the other blocks
+  pub bits : (b : ℕ) → (BlockOf B (view B img) s b → ⊥) → mapBit (block B new 1) b ≡ mapBit (block B img 1) b
+  pub entries : (i : ℕ) → (i < s * 20) ⊎ (s * 20 + 20 ≤ i) → getD (block B new 2) i 0 ≡ getD (block B img 2) i 0
+  pub bytes : (q : ℕ) → Outside B q → getD new q 0 ≡ getD img q 0
+  pub long : length new ≡ length img
+
+-- cs are the m lowest blocks of the volume that the map does not mark, in rising order
+pub record LowestBlocks (v : View) (m : ℕ) (cs : List ℕ) : Type 0 where
+  pub long : length cs ≡ m
+  pub below : (j : ℕ) → j < m → getD cs j 0 < v .n
+  pub clear : (j : ℕ) → j < m → mapBit (v .map) (getD cs j 0) ≡ false
+  pub rising : (i j : ℕ) → i < j → j < m → getD cs i 0 < getD cs j 0
+  -- any other that is not marked is higher than each of them
+  pub lowest : (b : ℕ) → b < v .n → mapBit (v .map) b ≡ false → (In b cs → ⊥) → (j : ℕ) → j < m → getD cs j 0 < b
+
+-- create of a file of z bytes under nm with the answer h: it stands in slot s, and cs are its inode and content blocks
+pub record CreateTouch (B : ℕ) (img new nm : List ℕ) (z h s : ℕ) (cs : List ℕ) : Type 0 where
+  -- "lowest free slot"
+  pub vacant : Vacant B (view B img) s
+  pub lower : (t : ℕ) → t < s → T (not (free (view B img) t))
+  -- "lowest free block becomes the inode, the next lowest in rising order hold content"
+  pub blocks : LowestBlocks (view B img) (1 + need B z) cs
+  pub handle : getD cs 0 0 ≡ h
+  pub marked : (b : ℕ) → In b cs → mapBit (block B new 1) b ≡ true
+  -- the 20 bytes of the slot: inode number, "name padded with zeros"
+  pub entry : slot (block B new 2) s ≡ bytes4 h ++ padTo 16 nm
+  -- the inode's bytes: size, block numbers, zeros; as they are read, "Unused inode numbers are 0"
+  pub inode : block B new h ≡ padTo B (words (z ∷ drop 1 cs))
+  pub size : inodeSize (block B new h) ≡ z
+  pub listed : (k : ℕ) → k < need B z → inodeNumber (block B new h) k ≡ getD cs (suc k) 0
+  pub unlisted : (k : ℕ) → need B z ≤ k → inodeNumber (block B new h) k ≡ 0
+  -- "all content blocks wholly zero"
+  pub zeroed : (k : ℕ) → k < need B z → block B new (getD cs (suc k) 0) ≡ zeros B
+  -- all else stays: the other bits of block 1, the other bytes of block 2, and all of the other blocks
+  pub bits : (b : ℕ) → (In b cs → ⊥) → mapBit (block B new 1) b ≡ mapBit (block B img 1) b
+  pub entries : (i : ℕ) → (i < s * 20) ⊎ (s * 20 + 20 ≤ i) → getD (block B new 2) i 0 ≡ getD (block B img 2) i 0
+  pub bytes : (q : ℕ) → Outside B q → (In (q / B) cs → ⊥) → getD new q 0 ≡ getD img q 0
+  pub long : length new ≡ length img
+
+-- of write see Laws.antt
+pub record TouchLaws (B : ℕ) (img : List ℕ) : Type 0 where
+  pub created : (nm : List ℕ) (z h : ℕ) → create B img nm z .answer ≡ value h → (s : ℕ) × (cs : List ℕ) × CreateTouch B img (create B img nm z .image) nm z h s cs
+  pub removed : (nm : List ℕ) (s : ℕ) → Stands B (view B img) nm s → RemoveTouch B img (remove B img nm .image) s
+
+-- format of an image of three blocks or more with an allowed name
+pub record FormatLaws (B : ℕ) (img label : List ℕ) : Type 0 where
+  pub answer : format B img label .answer ≡ done
+  pub consistent : Consistent B (format B img label .image)
+  -- no name stands, and no handle means a file
+  pub empty : (nm : List ℕ) → contents B (format B img label .image) nm ≡ none
+  pub handles : (h s : ℕ) → Handled B (view B (format B img label .image)) h s → ⊥
+  -- "Zeros all of blocks 0 to 2 ..; sets magic, name and map bits 0, 1, 2. Later blocks are untouched"
+  pub head : block B (format B img label .image) 0 ≡ 0 ∷ 0 ∷ 14 ∷ 161 ∷ (label ++ zeros (B - 4 - length label))
+  pub map : block B (format B img label .image) 1 ≡ 0 ∷ 0 ∷ 0 ∷ 7 ∷ zeros (B - 4)
+  pub directory : block B (format B img label .image) 2 ≡ zeros B
+  pub past : (q : ℕ) → 3 * B ≤ q → getD (format B img label .image) q 0 ≡ getD img q 0
+  pub long : length (format B img label .image) ≡ length img
+
+-- ---- read, granted with the count c: the file's bytes from the offset on; "Read leaves the rest of the buffer"
+pub record ReadLaws (B : ℕ) (img : List ℕ) (h o : ℕ) (buf : List ℕ) (c : ℕ) : Type 0 where
+  pub slot : ℕ
+  pub file : Handled B (view B img) h slot
+  pub within : o ≤ size (view B img) slot
+  pub count : c ≡ min (length buf) (size (view B img) slot - o)
+  pub buffer : read B img h o buf .buffer ≡ take c (drop o (content B (view B img) img slot)) ++ drop c buf
+
+-- ---- what create, remove and write keep, and what no request looks at
+-- "The rest [of block 0] is ignored"; "Bits from N on are ignored and kept"; "Bytes 500..511 are ignored and kept"
+pub record Kept (B : ℕ) (img new : List ℕ) : Type 0 where
+  pub head : block B new 0 ≡ block B img 0
+  pub bits : (b : ℕ) → blocks B img ≤ b → mapBit (block B new 1) b ≡ mapBit (block B img 1) b
+  pub ends : (i : ℕ) → 20 * slots B ≤ i → getD (block B new 2) i 0 ≡ getD (block B img 2) i 0
+
+-- two images of one length that differ at most in what is ignored
+pub record SameRead (B : ℕ) (a b : List ℕ) : Type 0 where
+  pub long : length a ≡ length b
+  -- magic and volume name
+  pub head : part 0 20 (block B a 0) ≡ part 0 20 (block B b 0)
+  pub bits : (i : ℕ) → i < blocks B a → mapBit (block B a 1) i ≡ mapBit (block B b 1) i
+  pub slots-same : (t : ℕ) → t < slots B → slot (block B a 2) t ≡ slot (block B b 2) t
+  -- the blocks from 3 to N − 1
+  pub rest : (i : ℕ) → 3 ≤ i → i < blocks B a → block B a i ≡ block B b i
+
+-- new is img with other bytes only before the end of the volume
+pub record Beyond (B : ℕ) (img new : List ℕ) : Type 0 where
+  pub long : length new ≡ length img
+  pub bytes : (q : ℕ) → blocks B img * B ≤ q → getD new q 0 ≡ getD img q 0
+
+-- two images, also of different lengths, with one volume
+pub record SameVolume (B : ℕ) (a b : List ℕ) : Type 0 where
+  pub n : blocks B a ≡ blocks B b
+  pub bytes : (i : ℕ) → i < blocks B a * B → getD a i 0 ≡ getD b i 0
+
+-- of every image, consistent or not
+pub record KeptLaws (B : ℕ) (a : List ℕ) : Type 0 where
+  pub kept : (c : Change) → Kept B a (perform B a c .image)
+  -- what is ignored has no say in any answer, nor in what read gives; and however many changes come, the images they leave differ in no more
+  pub ignored : (b : List ℕ) → SameRead B a b → (r : Request) → (reply B a r .answer ≡ reply B b r .answer) × (reply B a r .buffer ≡ reply B b r .buffer)
+  pub ignored-after : (b : List ℕ) → SameRead B a b → (cs : List Change) → SameRead B (afterAll B a cs) (afterAll B b cs)
+  -- "Bytes from 512·N on are never read or changed"
+  pub tail-kept : (r : Request) → Beyond B a (reply B a r .image)
+  pub tail-formatted : (label : List ℕ) → Beyond B a (format B a label .image)
+  pub tail-unread : (b : List ℕ) → SameVolume B a b → (r : Request) → (reply B a r .answer ≡ reply B b r .answer) × (reply B a r .buffer ≡ reply B b r .buffer) × SameVolume B (reply B a r .image) (reply B b r .image)
+  pub tail-format : (b : List ℕ) → SameVolume B a b → (label : List ℕ) → (format B a label .answer ≡ format B b label .answer) × SameVolume B (format B a label .image) (format B b label .image)
+
+-- ---- room
+-- inodes and content blocks, "counted from the directory and inodes"
+abbrev pub inodeCount : ℕ → View → ℕ
+inodeCount B v = sum (λ s. cond (free v s) 0 1) (slots B)
+
+abbrev pub contentCount : ℕ → View → ℕ
+contentCount B v = sum (λ s. cond (free v s) 0 (need B (size v s))) (slots B)
+
+pub record RoomLaws (B : ℕ) (img : List ℕ) : Type 0 where
+  -- "Blocks 0 to 2, inodes, content blocks and free blocks add up to N"
+  pub total : 3 + inodeCount B (view B img) + contentCount B (view B img) + freeBlocks (view B img) ≡ blocks B img
+  -- "Room freed by remove counts for 12 at once"; create takes 1 + ⌈size/512⌉ blocks; write takes none
+  pub freed : (nm : List ℕ) (s : ℕ) → Stands B (view B img) nm s → freeBlocks (view B (remove B img nm .image)) ≡ freeBlocks (view B img) + (1 + need B (size (view B img) s))
+  pub taken : (nm : List ℕ) (z : ℕ) → T (granted (create B img nm z .answer)) → freeBlocks (view B (create B img nm z .image)) + (1 + need B z) ≡ freeBlocks (view B img)
+  pub written : (h o : ℕ) (bs : List ℕ) → freeBlocks (view B (perform B img (writes h o bs) .image)) ≡ freeBlocks (view B img)

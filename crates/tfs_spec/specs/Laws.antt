@@ -1,0 +1,105 @@
+-- The laws of requests (demand 3): one claim each, over all consistent volumes and whole lists.
+use mathlib.Core.Path.{_≡_}
+use mathlib.Core.Logic.{_≢_, _↔_}
+use mathlib.Core.Bool.{Bool, cond, _&&_}
+use Prim.Native.Nat.{ℕ, _+_, _-_, _≤_, _<_}
+use mathlib.Core.List.{List, [], _∷_, map}
+use mathlib.Core.Option.{Option·map}
+use lib.ListN.{length, getD}
+use lib.Dec.{T, leb, ltb, eqb}
+use Rattle.lists.specs.Lists.{table, joined}
+use Rattle.tfs_spec.specs.Layout.{block, sameName}
+use Rattle.tfs_spec.specs.View.{view, size, slotOf, slotWith, place, contents}
+use Rattle.tfs_spec.specs.Requests.{Answer, done, value, unused, file, refused, granted, Outcome, create, remove, write, Change, perform}
+use Rattle.tfs_spec.specs.Answers.{Handled}
+use Rattle.tfs_spec.specs.Effects.{nameOn}
+
+pub record Write : Type 0 where
+  pub handle : ℕ
+  pub offset : ℕ
+  pub bytes : List ℕ
+
+unfoldable pub request : ℕ → List ℕ → Write → Outcome
+request B img w = write B img (w .handle) (w .offset) (w .bytes)
+
+-- "each request gets the image the last one left"
+unfoldable pub after : ℕ → List ℕ → List Write → List ℕ
+after B img [] = img
+after B img (w ∷ ws) = after B (request B img w .image) ws
+
+unfoldable pub answers : ℕ → List ℕ → List Write → List Answer
+answers B img [] = []
+answers B img (w ∷ ws) = request B img w .answer ∷ answers B (request B img w .image) ws
+
+-- the count of an answer: a refusal counts 0
+abbrev pub countOf : Answer → ℕ
+countOf done = 0
+countOf (value c) = c
+countOf unused = 0
+countOf (file nm i z) = 0
+countOf (refused num p) = 0
+
+-- "A granted write at offset o with count c covers positions o to o + c − 1 of the file its handle means there"
+unfoldable pub coversAt : ℕ → List ℕ → Write → ℕ → ℕ → Bool
+coversAt B img w s p =
+    eqb (slotWith B (view B img) (w .handle)) s
+    && (leb (w .offset) p && ltb p (w .offset + countOf (request B img w .answer)))
+
+-- "what the last granted write covering it put there, or its byte before the list"
+unfoldable pub lastAt : ℕ → List ℕ → List Write → ℕ → ℕ → ℕ → ℕ
+lastAt B img [] s p old = old
+lastAt B img (w ∷ ws) s p old = lastAt B img ws s p (cond (coversAt B img w s p) (getD (w .bytes) (p - w .offset) 0) old)
+
+-- 1. any list of writes, refused ones included
+pub record WritesLaw (B : ℕ) (img : List ℕ) (ws : List Write) : Type 0 where
+  -- "Every write of a list gets the answer that the rules give it on the volume before the list"
+  pub answered : answers B img ws ≡ map (λ w. request B img w .answer) ws
+  -- names, sizes and places are as before
+  pub kept : view B (after B img ws) ≡ view B img
+  -- "every byte of every file is what the last granted write covering it put there, or its byte before the list if none did"
+  pub bytes : (s p : ℕ) → p < size (view B img) s → getD (after B img ws) (place B (view B img) s p) 0 ≡ lastAt B img ws s p (getD img (place B (view B img) s p) 0)
+  -- "No other byte of the image has changed"
+  pub others : (q : ℕ) → ((s p : ℕ) → p < size (view B img) s → q ≢ place B (view B img) s p) → getD (after B img ws) q 0 ≡ getD img q 0
+  pub long : length (after B img ws) ≡ length img
+  -- the same by name: the bytes of each file that stands
+  pub named : (nm : List ℕ) → contents B (after B img ws) nm ≡ Option·map (λ old. table (λ p. lastAt B img ws (slotOf B (view B img) nm) p (getD old p 0)) 0 (length old)) (contents B img nm)
+
+-- pieces written to one handle, each at the offset where the count of the one before ended
+unfoldable pub piecesImage : ℕ → List ℕ → ℕ → ℕ → List (List ℕ) → List ℕ
+piecesImage B img h o [] = img
+piecesImage B img h o (b ∷ bs) = piecesImage B (write B img h o b .image) h (o + countOf (write B img h o b .answer)) bs
+
+-- "a refused piece counts 0"
+unfoldable pub piecesCount : ℕ → List ℕ → ℕ → ℕ → List (List ℕ) → ℕ
+piecesCount B img h o [] = 0
+piecesCount B img h o (b ∷ bs) = countOf (write B img h o b .answer) + piecesCount B (write B img h o b .image) h (o + countOf (write B img h o b .answer)) bs
+
+-- 2. "the image and the sum of the counts are those of one joined write"
+pub record PiecesLaw (B : ℕ) (img : List ℕ) (h o : ℕ) (bs : List (List ℕ)) : Type 0 where
+  pub image : piecesImage B img h o bs ≡ write B img h o (joined bs) .image
+  pub count : piecesCount B img h o bs ≡ countOf (write B img h o (joined bs) .answer)
+
+-- 3. "A granted create, then a remove of that name, gives the directory and map back byte for byte"
+pub record BackLaw (B : ℕ) (img nm : List ℕ) (z : ℕ) : Type 0 where
+  -- the remove is granted
+  pub answer : remove B (create B img nm z .image) nm .answer ≡ done
+  -- "The map is block 1, the directory block 2"
+  pub map : block B (remove B (create B img nm z .image) nm .image) 1 ≡ block B img 1
+  pub directory : block B (remove B (create B img nm z .image) nm .image) 2 ≡ block B img 2
+
+-- two requests are granted in both orders
+pub record BothOrders (B : ℕ) (img : List ℕ) (a b : Change) : Type 0 where
+  pub first-a : T (granted (perform B img a .answer))
+  pub then-b : T (granted (perform B (perform B img a .image) b .answer))
+  pub first-b : T (granted (perform B img b .answer))
+  pub then-a : T (granted (perform B (perform B img b .image) a .answer))
+
+-- of a consistent volume
+pub record RequestLaws (B : ℕ) (img : List ℕ) : Type 0 where
+  pub writes : (ws : List Write) → WritesLaw B img ws
+  -- what it is to cover in it: granted with the count c, to the file in slot s, at an offset from which c bytes reach p
+  pub covers : (w : Write) (s p : ℕ) → T (coversAt B img w s p) ↔ (Handled B (view B img) (w .handle) s × (c : ℕ) × (request B img w .answer ≡ value c) × (w .offset ≤ p) × (p < w .offset + c))
+  pub pieces : (h o : ℕ) (bs : List (List ℕ)) → PiecesLaw B img h o bs
+  pub back : (nm : List ℕ) (z : ℕ) → T (granted (create B img nm z .answer)) → BackLaw B img nm z
+  -- 4. "Two requests out of create, remove and write, on different names and granted in both orders, end with the same names, sizes and contents in either order"
+  pub orders : (a b : Change) → (T (sameName (nameOn B (view B img) a) (nameOn B (view B img) b)) → ⊥) → BothOrders B img a b → (nm : List ℕ) → contents B (perform B (perform B img a .image) b .image) nm ≡ contents B (perform B (perform B img b .image) a .image) nm
