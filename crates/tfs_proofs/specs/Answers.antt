@@ -1,12 +1,12 @@
 -- Every answer is a grant, or a refusal with a number that the table gives the request.
-use mathlib.Core.Path.{_≡_, refl}
+use mathlib.Core.Path.{refl}
 use mathlib.Core.Logic.{inl, inr}
-use Prim.Native.Nat.{ℕ, _≤_}
+use Prim.Native.Nat.{ℕ}
 use mathlib.Core.List.{List, [], _∷_}
 use native.Mathlib.Omega.{arith}
 use Rattle.tfs_spec.specs.View.{View}
 use Rattle.tfs_spec.specs.Consistent.{Broken, short, unmagical, unlabelled, malformed, repeated, oversized, misnumbered, twice, unmarked, stray}
-use Rattle.tfs_spec.specs.Requests.{Answer, done, value, unused, file, refused}
+use Rattle.tfs_spec.specs.Requests.{Answer, refused}
 use Rattle.lists.specs.Lists.{In}
 use Rattle.tfs_spec.specs.Answers as rule
 use Rattle.tfs_spec.specs.Answers.{FindRule, CreateRule, TransferRule, ListRule, FormatRule, Numbered, checkThen}

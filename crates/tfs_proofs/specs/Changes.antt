@@ -3,7 +3,6 @@ use mathlib.Core.Path.{_≡_, refl, sym, ap, _∙_, subst}
 use mathlib.Core.Bool.{Bool, not, cond}
 use Prim.Native.Nat.{ℕ, _<_}
 use mathlib.Core.List.{List}
-use mathlib.Core.Option.{Option}
 use native.Mathlib.Omega.{arith}
 use lib.ListN.{length}
 use lib.Dec.{T, ltb, ltb→lt}
@@ -24,7 +23,7 @@ use Rattle.tfs_facts.specs.Chosen.{CreateGrant}
 use Rattle.tfs_proofs.specs.Creates.{grant-step, create-grant, create-consistent, create-contents}
 use Rattle.tfs_proofs.specs.Removes.{remove-consistent, remove-contents}
 use Rattle.tfs_proofs.specs.WriteContents.{write-contents}
-use Rattle.tfs_spec.specs.Effects.{change, made, gone, wrote, nameOn, effectOf}
+use Rattle.tfs_spec.specs.Effects.{change, wrote, nameOn, effectOf}
 
 -- ---- a granted request on a consistent volume
 abbrev pub Passed : ℕ → List ℕ → Type 0

@@ -8,18 +8,17 @@ use mathlib.Core.List.{List, [], _∷_, _++_}
 use native.Mathlib.Omega.{arith}
 use lib.ListN.{length, getD, drop, length-take, length-replicate}
 use lib.Seq.{take-all, getD-append-add}
-use lib.Dec.{T, ltb, eqb, ltb→lt, nltb→le, T-not}
+use lib.Dec.{T, ltb, ltb→lt, nltb→le, T-not}
 use Rattle.list_laws.specs.Test.{all-zero, by-test, cond-yes, cond-no, and-l, no-and, yes-yes}
 use Rattle.list_laws.specs.Least.{least-all}
 use Rattle.lists.specs.Lists.{zeros, padTo, part, word, bytes4, withBit}
 use Rattle.list_laws.specs.Part.{getD-part}
 use Rattle.list_laws.specs.Word.{word-bytes4}
 use Rattle.tfs_spec.specs.Layout.{BlockSize, slots, block, magic, volumeName, mapBit, setBits, slot, slotFree, labelAllowed, sameName, setBit}
-use Rattle.tfs_spec.specs.View.{View, view, free, inode, name, slotOf, slotWith, contents}
+use Rattle.tfs_spec.specs.View.{View, view, free, name, slotOf, contents}
 use Rattle.tfs_spec.specs.Check.{tooShort}
 use Rattle.tfs_spec.specs.Consistent.{File, Sound, Consistent}
 use Rattle.tfs_facts.specs.Claims.{slotIn, owns-file}
-use Rattle.tfs_facts.specs.CheckMeans.{check-means}
 use Rattle.tfs_spec.specs.Requests.{done, granted, Outcome, store, storeAll, refuse, formatStores, format, refused}
 use Rattle.tfs_facts.specs.Raw.{head-number, label-byte}
 use Rattle.tfs_facts.specs.Views.{view-head, view-map, view-dir}
@@ -84,10 +83,6 @@ module _ (B : ℕ) (v : View) (clear : (s : ℕ) → T (free v s)) where
   pub slotOf-empty : (nm : List ℕ) → slotOf B v nm ≡ slots B
   unfolding slotOf
   slotOf-empty nm = least-all (λ s. not (free v s) && sameName (name v s) nm) (slots B) (λ s l. no-and (not (free v s)) _ (yes-yes (free v s) (clear s)))
-
-  pub slotWith-empty : (h : ℕ) → slotWith B v h ≡ slots B
-  unfolding slotWith
-  slotWith-empty h = least-all (λ s. not (free v s) && eqb (inode v s) h) (slots B) (λ s l. no-and (not (free v s)) _ (yes-yes (free v s) (clear s)))
 
 -- format stores to blocks 0 to 2
 pub format-fits : (B : ℕ) → BlockSize B → (label : List ℕ) → Fits B (3 * B) (formatStores B label)

@@ -17,7 +17,7 @@ use Rattle.list_laws.specs.Least.{least-hit, least-none, least-below, least-all
 use Rattle.tfs_spec.specs.Layout.{BlockSize, slots, maxSize, need, mapBit, slot, nameField, labelAllowed, nameAllowed}
 use Rattle.tfs_spec.specs.View.{View, view, free, used, inode, name, size, slotOf, slotWith, freeSlot, freeBlocks}
 use Rattle.tfs_spec.specs.Check.{consistent, check, tooShort}
-use Rattle.tfs_spec.specs.Consistent.{File, Sound, Consistent}
+use Rattle.tfs_spec.specs.Consistent.{Sound, Consistent}
 use Rattle.tfs_facts.specs.Claims.{count-some}
 use Rattle.tfs_facts.specs.CheckMeans.{check-means, same-means, length-field, used-means, name-means}
 use Rattle.tfs_facts.specs.Room.{free-cursor}

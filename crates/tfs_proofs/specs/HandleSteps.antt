@@ -21,7 +21,7 @@ use Rattle.tfs_proofs.specs.Creates as made
 use Rattle.tfs_proofs.specs.Removes as removed
 use Rattle.tfs_proofs.specs.Changes.{Passed, create-granted, create-image, remove-granted, remove-image, refused-keeps, stays-consistent}
 use Rattle.tfs_proofs.specs.Handles.{Means, removed-none, created-none, created-handle}
-use Rattle.tfs_spec.specs.Answers.{Stands, Handled, CreateRule, unnamed, oversized, standing, full, cramped, created}
+use Rattle.tfs_spec.specs.Answers.{CreateRule, unnamed, oversized, standing, full, cramped, created}
 use Rattle.tfs_spec.specs.Handles.{MeansFile, MeansNone, RemovesName, GivesHandle, NoneRemoves, NoneGives}
 use Rattle.tfs_proofs.specs.Grants.{stands-hit, stands-at, stands-removed, handled-hit, handled-at, handled-low, unhandled-high, create-answers}
 use Rattle.tfs_proofs.specs.Creates.{same-value}

@@ -7,14 +7,13 @@ use mathlib.Core.List.{List}
 use native.Mathlib.Omega.{arith}
 use native.Mathlib.Decide.{decLt}
 use lib.ListN.{length, getD}
-use lib.Arith.{le→nltb}
 use lib.Dec.{T, ltb, ltb→lt}
-use Rattle.list_laws.specs.Test.{cond-yes, not-not}
+use Rattle.list_laws.specs.Test.{not-not}
 use Rattle.tfs_spec.specs.Layout.{BlockSize, slots, maxSize, need, nameAllowed}
 use Rattle.tfs_spec.specs.View.{View, view, inode, slotOf, slotWith, freeSlot, freeBlocks}
 use Rattle.tfs_spec.specs.Consistent.{inodeOf, Consistent}
 use Rattle.tfs_facts.specs.CheckMeans.{check-means}
-use Rattle.tfs_spec.specs.Requests.{Answer, value, refused, granted, Outcome, storeAll, openView, openAnswer, chosen, createView, createStores, create, removeStores, remove, transferView, read, write, creates, removes, perform}
+use Rattle.tfs_spec.specs.Requests.{Answer, value, refused, granted, Outcome, storeAll, openView, openAnswer, chosen, createView, createStores, create, removeStores, remove, transferView, read, write}
 use Rattle.tfs_proofs.specs.Places.{owner-slot}
 use Rattle.tfs_proofs.specs.WriteLists.{wr, request-answer}
 use Rattle.tfs_spec.specs.Laws.{request}
@@ -25,7 +24,7 @@ use Rattle.tfs_facts.specs.Chosen.{CreateGrant}
 use Rattle.tfs_proofs.specs.Creates as made
 use Rattle.tfs_proofs.specs.Removes as removed
 use Rattle.tfs_proofs.specs.CreateRemove.{at-slot, hit}
-use Rattle.tfs_proofs.specs.Changes.{Passed, create-is, create-granted, create-image, remove-granted, remove-image, changed, stays-consistent}
+use Rattle.tfs_proofs.specs.Changes.{Passed, create-is, create-granted, create-image, remove-granted, remove-image}
 
 -- ---- what a handle means
 -- the handle h means the file that stands under nm

@@ -1,12 +1,10 @@
 -- Changes of the plain view of a volume at one name; two at different names commute.
 use mathlib.Core.Path.{_≡_, refl}
-use mathlib.Core.Bool.{Bool, true, false, cond, _&&_}
-use Prim.Native.Nat.{ℕ, _+_, _-_}
+use mathlib.Core.Bool.{Bool, true, false, cond}
+use Prim.Native.Nat.{ℕ, _-_}
 use mathlib.Core.List.{List}
-use mathlib.Core.Option.{Option, none, some, Option·map}
-use lib.ListN.{length, getD}
-use lib.Dec.{T, leb, ltb}
-use Rattle.lists.specs.Lists.{zeros, table}
+use mathlib.Core.Option.{Option}
+use lib.Dec.{T}
 use Rattle.tfs_spec.specs.Layout.{sameName}
 use Rattle.tfs_spec.specs.View.{Contents}
 use Rattle.tfs_spec.specs.Effects.{change}

@@ -1,5 +1,5 @@
 -- The layout in raw offsets.
-use mathlib.Core.Path.{_≡_, refl, sym, ap, _∙_, subst}
+use mathlib.Core.Path.{_≡_, refl, sym, ap, _∙_}
 use mathlib.Core.Logic.{_↔_}
 use Prim.Native.Nat.{ℕ, _+_, _*_, _/_, _%_, _^_, _≤_, _<_}
 use mathlib.Core.List.{List, []}
@@ -15,7 +15,6 @@ use Rattle.list_laws.specs.Word.{word-cong}
 use Rattle.list_laws.specs.Part.{length-part, getD-part}
 use Rattle.tfs_spec.specs.Layout.{BlockSize, maxBlocks, slots, numbers, block, slot, slotInode, nameField, volumeName, mapBit, inodeSize, inodeNumber}
 use Rattle.tfs_spec.specs.View.{view, free, used, inode, name, size, number, place}
-use Rattle.tfs_spec.specs.Consistent.{Inside}
 use Rattle.tfs_spec.specs.Offsets.{numberAt, Bytes, slotAt, InVolume, NameAt, LayoutLaws}
 use Rattle.tfs_facts.specs.Raw.{word-number, part-number, head-number, label-byte}
 use Rattle.tfs_facts.specs.CheckMeans.{Named, free-means, used-means, name-means, length-field}

@@ -1,5 +1,5 @@
 -- Each statement of tfs_spec has its proof here, under its own name.
-use mathlib.Core.Path.{_≡_, refl, sym, ap, _∙_, subst}
+use mathlib.Core.Path.{_≡_, refl, sym, _∙_, subst}
 use Prim.Native.Nat.{ℕ, _*_, _≤_}
 use mathlib.Core.List.{List}
 use native.Mathlib.Omega.{arith}
@@ -9,7 +9,7 @@ use Rattle.tfs_spec.specs.Layout.{BlockSize, need, blocks, labelAllowed}
 use Rattle.tfs_spec.specs.View.{view}
 use Rattle.tfs_spec.specs.Check.{check}
 use Rattle.tfs_spec.specs.Consistent.{Consistent}
-use Rattle.tfs_spec.specs.Requests.{Answer, value, granted, format, checkAnswer, read, write, creates, writes, perform, reads, changes}
+use Rattle.tfs_spec.specs.Requests.{Answer, value, granted, format, checkAnswer, read, writes, perform, reads, changes}
 use Rattle.tfs_spec.specs.Offsets.{LayoutLaws, NameLaws, NumberLaws}
 use Rattle.tfs_spec.specs.Answers.{LabelRule, unhandled, CheckLaws, RefusalLaws, GrantLaws}
 use Rattle.tfs_spec.specs.Effects.{ContentLaws, ChangeLaws, TouchLaws, FormatLaws, ReadLaws, KeptLaws, RoomLaws}
@@ -32,7 +32,7 @@ use Rattle.tfs_proofs.specs.IgnoredSteps.{same-after-all}
 use Rattle.tfs_proofs.specs.Touches.{remove-touches, create-touches}
 use Rattle.tfs_proofs.specs.Rooms.{removed-room, created-room, written-room}
 use Rattle.tfs_proofs.specs.Handles.{open-means}
-use Rattle.tfs_proofs.specs.HandleSteps.{means-file, step-gone, step-none, step-new, handles-law}
+use Rattle.tfs_proofs.specs.HandleSteps.{means-file, step-gone, step-new, handles-law}
 use Rattle.tfs_proofs.specs.HandleSteps as steps
 use Rattle.tfs_proofs.specs.WriteLists.{writes-law, pieces-law}
 use Rattle.tfs_proofs.specs.CreateRemove.{back-law}

@@ -7,14 +7,13 @@ use mathlib.Core.List.{List, _∷_, _++_}
 use native.Mathlib.Omega.{arith}
 use native.Mathlib.Nat.{zero-add}
 use lib.ListN.{length, getD, take, drop}
-use lib.Arith.{le→nltb}
 use lib.Dec.{T, ltb, ltb→lt, nltb→le, lt→ltb, eqb→eq, eqb, leb→le, leb, le→leb}
-use Rattle.list_laws.specs.Test.{cond-no, not-not, yes-yes, and-of, and-l, and-r, eqb-of}
+use Rattle.list_laws.specs.Test.{cond-no, not-not, and-of, and-l, and-r, eqb-of}
 use Rattle.lists.specs.Lists.{table}
 use Rattle.tfs_spec.specs.Layout.{slots, BlockSize}
 use Rattle.tfs_spec.specs.View.{View, view, inode, size, slotWith, place, content}
 use Rattle.tfs_spec.specs.Check.{Verdict, consistent, broken, check}
-use Rattle.tfs_spec.specs.Consistent.{File, Sound, Consistent}
+use Rattle.tfs_spec.specs.Consistent.{File, Consistent}
 use Rattle.tfs_spec.specs.Answers.{Handled}
 use Rattle.tfs_spec.specs.Effects.{ReadLaws}
 use Rattle.tfs_spec.specs.Laws.{Write, request, countOf, coversAt}
@@ -59,11 +58,6 @@ transfer-core slot all size o n c e =
     let a15 = value-step (ltb size o) 15 (value n) c (a14 .1) in
     (ltb→lt slot all (not-not (ltb slot all) (a14 .0)), nltb→le size o (a15 .0), sym (same-value n c (a15 .1)))
 
-grant-core : (slot all size o n : ℕ) → slot < all → o ≤ size → cond (not (ltb slot all)) (refused 14 0) (cond (ltb size o) (refused 15 0) (value n)) ≡ value n
-grant-core slot all size o n l h =
-    cond-no (not (ltb slot all)) (refused 14 0) (cond (ltb size o) (refused 15 0) (value n)) (yes-yes (ltb slot all) (lt→ltb slot all l))
-    ∙ cond-no (ltb size o) (refused 15 0) (value n) (le→nltb size o h)
-
 -- what a count as the answer says
 pub transfer-means : (B : ℕ) (v : View) (h o len c : ℕ) → transferView B v h o len ≡ value c → Transfer B v h o len c
 unfolding transferView counted
@@ -72,26 +66,6 @@ transfer-means B v h o len c e =
     let r : (s < slots B) × (o ≤ size v s) × (c ≡ min len (size v s - o)) = transfer-core s (slots B) (size v s) o (min len (size v s - o)) c e in
     let hit : File B v s × (inode v s ≡ h) = handle-hit B v h (r .0) in
     record { file = hit .0; handle = hit .1; within = r .1; count = r .2 }
-
--- a transfer is granted with that count exactly so, on any volume
-pub transfer-grants : (B : ℕ) (v : View) (h o len c : ℕ) → (transferView B v h o len ≡ value c) ↔ Transfer B v h o len c
-unfolding transferView counted
-transfer-grants B v h o len c = (
-  transfer-means B v h o len c,
-  λ t.
-      let s : ℕ = slotWith B v h in
-      grant-core s (slots B) (size v s) o (min len (size v s - o)) (t .file .slot) (t .within) ∙ ap value (sym (t .count)),
-)
-
--- on a sound volume, with no search: a handle that is the inode number of the file in slot s, and an offset not past its end
-pub transfer-file : (B : ℕ) (v : View) → Sound B v → (s h o len : ℕ) → File B v s → inode v s ≡ h → o ≤ size v s → transferView B v h o len ≡ value (min len (size v s - o))
-transfer-file B v ok s h o len f e l =
-    let at : slotWith B v h ≡ s = handle-is B v h ok s f e in
-    transfer-grants B v h o len (min len (size v s - o)) .1
-    (subst (λ (x : ℕ). (inode v x ≡ h) → (o ≤ size v x) → File B v x → Transfer B v h o len (min len (size v s - o))) at
-    (λ i k g.
-    record { file = g; handle = i; within = k; count = ap (λ (x : ℕ). min len (size v x - o)) (sym at) })
-    e l f)
 
 -- ---- read
 read-granted : (verdict : Verdict) (a : Answer) (full buf : List ℕ) (c : ℕ) → checked verdict (refuseFilled buf) (record { answer = a; buffer = cond (granted a) full buf }) .answer ≡ value c → (a ≡ value c) × (checked verdict (refuseFilled buf) (record { answer = a; buffer = cond (granted a) full buf }) .buffer ≡ full)

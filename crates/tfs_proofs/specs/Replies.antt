@@ -1,14 +1,14 @@
 -- What holds of every request, request by request.
-use mathlib.Core.Path.{_≡_, refl, sym, ap, ap₂, _∙_, subst}
+use mathlib.Core.Path.{_≡_, refl, sym, ap, ap₂, subst}
 use mathlib.Core.Logic.{_↔_}
 use mathlib.Core.Bool.{not}
-use Prim.Native.Nat.{ℕ, _≤_}
-use mathlib.Core.List.{List, [], _∷_}
+use Prim.Native.Nat.{ℕ}
+use mathlib.Core.List.{List, []}
 use native.Mathlib.Omega.{arith}
 use lib.ListN.{length}
 use lib.Dec.{T}
 use Rattle.tfs_spec.specs.Layout.{BlockSize}
-use Rattle.tfs_spec.specs.View.{view, inode}
+use Rattle.tfs_spec.specs.View.{view}
 use Rattle.tfs_spec.specs.Check.{Verdict, consistent, broken, check}
 use Rattle.tfs_spec.specs.Consistent.{Consistent, FirstBroken}
 use Rattle.tfs_spec.specs.Requests.{Answer, done, refused, granted, checked, Filled, checkAnswer, openAnswer, create, remove, read, write, listAnswer, freeAnswer, Change, creates, removes, writes, perform, Request, changes, checks, opens, reads, lists, counts, lent, reply}
@@ -20,8 +20,8 @@ use Rattle.tfs_proofs.specs.Reads.{read-refused}
 use Rattle.tfs_proofs.specs.Grants.{rule-reply}
 use Rattle.tfs_proofs.specs.Answers.{broken-numbered, find-numbered, create-numbered, transfer-numbered, list-numbered}
 use Rattle.tfs_proofs.specs.Kept.{create-kept, remove-kept, write-kept}
-use Rattle.tfs_proofs.specs.Ignored.{IgnoredLaw, ignored}
-use Rattle.tfs_proofs.specs.Tail.{TailKept, tail-kept, TailLaw, tail-unread}
+use Rattle.tfs_proofs.specs.Ignored.{ignored}
+use Rattle.tfs_proofs.specs.Tail.{tail-kept, tail-unread}
 
 -- ---- the check's answer tells the verdict
 pub told-done : (x : Verdict) → (checked x refused done ≡ done) ↔ (x ≡ consistent)

@@ -3,7 +3,7 @@ use mathlib.Core.Path.{_≡_, refl, sym, ap, _∙_, subst}
 use mathlib.Core.Logic.{_≢_, _⊎_, inl, inr, ⊎-elim}
 use mathlib.Core.Bool.{Bool, true, false, not}
 use Prim.Native.Nat.{ℕ, zero, suc, _+_, _*_, _/_, _%_, _≤_, _<_}
-use mathlib.Core.List.{List, _∷_, _++_}
+use mathlib.Core.List.{List}
 use native.Mathlib.Omega.{arith}
 use native.Mathlib.Nat.{div-add-mod', mod-lt}
 use native.Mathlib.Decide.{ℕ-discrete, decLt}
@@ -12,10 +12,10 @@ use lib.Seq.{getD-take}
 use lib.Dec.{T}
 use Rattle.list_laws.specs.Test.{to-true}
 use Rattle.list_laws.specs.Least.{least-below}
-use Rattle.lists.specs.Lists.{zeros, padTo, bytes4, words, In}
+use Rattle.lists.specs.Lists.{zeros, In}
 use Rattle.list_laws.specs.Part.{getD-with-in, getD-with-before, getD-with-after}
 use Rattle.tfs_spec.specs.Layout.{BlockSize, slots, need, block, mapBit, slot, setSlot, entry, inodeSize, inodeNumber, inodeBlock}
-use Rattle.tfs_spec.specs.View.{View, view, free, inode, size, number, slotOf, freeSlot}
+use Rattle.tfs_spec.specs.View.{View, view, free, inode, size, slotOf, freeSlot}
 use Rattle.tfs_spec.specs.Check.{fileClaims}
 use Rattle.tfs_spec.specs.Consistent.{File, Owner, inodeOf, contentOf, Owns, Consistent}
 use Rattle.tfs_facts.specs.Claims.{slotIn}
@@ -32,7 +32,7 @@ use Rattle.tfs_proofs.specs.Creates as made
 use Rattle.tfs_proofs.specs.Removes as removed
 use Rattle.tfs_proofs.specs.Changes.{Passed, create-granted, create-image, remove-granted, remove-image}
 use Rattle.tfs_proofs.specs.Handles.{answered}
-use Rattle.tfs_spec.specs.Answers.{Stands, Vacant}
+use Rattle.tfs_spec.specs.Answers.{Stands}
 use Rattle.tfs_spec.specs.Effects.{Outside, BlockOf, RemoveTouch, LowestBlocks, CreateTouch}
 use Rattle.tfs_proofs.specs.Grants.{stands-at, stands-removed, vacant-hit}
 

@@ -1,6 +1,5 @@
 -- Lists of writes on a consistent volume: every answer, every byte of every file, and every other byte; and pieces against the joined write.
 use mathlib.Core.Path.{_≡_, refl, sym, ap, ap₂, _∙_, fun-ext}
-use mathlib.Core.Logic.{_≢_}
 use mathlib.Core.Bool.{Bool, not, cond, _&&_}
 use Prim.Native.Nat.{ℕ, _+_, _-_, _*_, _≤_, _<_, min}
 use mathlib.Core.List.{List, [], _∷_, _++_, map}
@@ -14,10 +13,10 @@ use Rattle.list_laws.specs.Least.{least-le}
 use Rattle.lists.specs.Lists.{storeAt, table, joined}
 use Rattle.tfs_spec.specs.Layout.{slots, inodeSize}
 use mathlib.Core.Option.{Option·map}
-use Rattle.tfs_spec.specs.View.{View, view, free, inode, size, slotWith, slotOf, place, contents}
+use Rattle.tfs_spec.specs.View.{View, view, free, inode, size, slotWith, slotOf, place}
 use Rattle.tfs_spec.specs.Check.{consistent, broken, check, checkView, tooShort}
 use Rattle.tfs_spec.specs.Consistent.{Sound}
-use Rattle.tfs_spec.specs.Requests.{Answer, done, value, unused, file, refused, granted, Outcome, counted, transferView, writeImage, write}
+use Rattle.tfs_spec.specs.Requests.{Answer, value, file, refused, granted, counted, transferView, writeImage, write}
 use Rattle.tfs_spec.specs.Laws.{Write, request, after, answers, countOf, coversAt, lastAt, WritesLaw, piecesImage, piecesCount, PiecesLaw}
 use Rattle.tfs_facts.specs.Views.{inodes-out}
 use Rattle.tfs_proofs.specs.Content.{contents-at, contents-in, standing-map, content-by}

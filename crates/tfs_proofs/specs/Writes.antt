@@ -10,7 +10,7 @@ use native.Mathlib.Decide.{decLe}
 use lib.ListN.{length, getD, take, length-take}
 use lib.Seq.{getD-take}
 use lib.Dec.{T, leb, ltb, eqb, eqb→eq, leb→le, ltb→lt, eqb-refl, le→leb, lt→ltb, T-not}
-use Rattle.lists.specs.Lists.{joined, storeAt}
+use Rattle.lists.specs.Lists.{storeAt}
 use Rattle.list_laws.specs.Test.{by-test, cond-yes, cond-no, and-of, and-l, and-r}
 use Rattle.list_laws.specs.Store.{length-store, store-other, store-at, store-join}
 

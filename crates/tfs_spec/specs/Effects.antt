@@ -12,7 +12,7 @@ use Rattle.tfs_spec.specs.Layout.{slots, need, blocks, block, mapBit, sl
 use Rattle.tfs_spec.specs.View.{View, view, free, inode, name, size, number, slotWith, content, Contents, contents, freeBlocks}
 use Rattle.tfs_spec.specs.Consistent.{File, Consistent}
 use Rattle.tfs_spec.specs.Requests.{done, value, granted, format, create, remove, read, Change, creates, removes, writes, perform, Request, reply, afterAll}
-use Rattle.tfs_spec.specs.Answers.{LabelRule, Stands, Fresh, Handled, Vacant}
+use Rattle.tfs_spec.specs.Answers.{Stands, Fresh, Handled, Vacant}
 
 -- ---- the content of files, and what stands under a name
 pub record ContentLaws (B : ℕ) (img : List ℕ) : Type 0 where
