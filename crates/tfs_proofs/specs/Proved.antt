@@ -26,7 +26,7 @@ use Rattle.tfs_proofs.specs.Formats.{format-refused, format-grants, form
 use Rattle.tfs_proofs.specs.Reads.{read-law, covers}
 use Rattle.tfs_proofs.specs.Grants.{stands-at, fresh-high, label-allowed, name-allowed, format-rule, rule-reply, create-grants}
 use Rattle.tfs_proofs.specs.Answers.{format-numbered}
-use Rattle.tfs_proofs.specs.Replies.{told-done, told-broken, faulty, fault-reply, numbered, keeps, kept, ignored-reply, tail-kept-by, tail-unread-by}
+use Rattle.tfs_proofs.specs.Replies.{told-done, told-broken, granted-or-refused, faulty, fault-reply, numbered, keeps, kept, ignored-reply, tail-kept-by, tail-unread-by}
 use Rattle.tfs_proofs.specs.Tail.{tail-kept, tail-unread}
 use Rattle.tfs_proofs.specs.IgnoredSteps.{same-after-all}
 use Rattle.tfs_proofs.specs.Touches.{remove-touches, create-touches}
@@ -81,6 +81,7 @@ refusal-laws B sz img =
       format-numbered = λ label. format-numbered B img label (format B img label .answer) (format-rule B img label (format B img label .answer) .0 refl);
       keeps = keeps B img;
       format-keeps = format-refused B img;
+      granted-or-refused = granted-or-refused;
     }
 
 pub grant-laws : (B : ℕ) → BlockSize B → (img : List ℕ) → GrantLaws B img

@@ -1,6 +1,6 @@
 -- What holds of every request, request by request.
 use mathlib.Core.Path.{_≡_, refl, sym, ap, ap₂, subst}
-use mathlib.Core.Logic.{_↔_}
+use mathlib.Core.Logic.{_≢_, _↔_}
 use mathlib.Core.Bool.{not}
 use Prim.Native.Nat.{ℕ}
 use mathlib.Core.List.{List, []}
@@ -11,7 +11,7 @@ use Rattle.tfs_spec.specs.Layout.{BlockSize}
 use Rattle.tfs_spec.specs.View.{view}
 use Rattle.tfs_spec.specs.Check.{Verdict, consistent, broken, check}
 use Rattle.tfs_spec.specs.Consistent.{Consistent, FirstBroken}
-use Rattle.tfs_spec.specs.Requests.{Answer, done, refused, granted, checked, Filled, checkAnswer, openAnswer, create, remove, read, write, listAnswer, freeAnswer, Change, creates, removes, writes, perform, Request, changes, checks, opens, reads, lists, counts, lent, reply}
+use Rattle.tfs_spec.specs.Requests.{Answer, done, value, unused, file, refused, granted, checked, Filled, checkAnswer, openAnswer, create, remove, read, write, listAnswer, freeAnswer, Change, creates, removes, writes, perform, Request, changes, checks, opens, reads, lists, counts, lent, reply}
 use Rattle.tfs_spec.specs.Answers.{Numbered, checkThen, ownNumbers, Rule}
 use Rattle.tfs_spec.specs.Effects.{SameRead, Beyond, SameVolume, Kept}
 use Rattle.tfs_facts.specs.CheckMeans.{check-means, check-breaks}
@@ -33,6 +33,14 @@ pub told-broken : (x : Verdict) (num p : ℕ) → (checked x refused done ≡ re
 told-broken consistent num p =
     ((λ e. absurd (let z : _≡_ {A = ℕ} 0 1 = cc in omega arith)), λ e. absurd (let z : _≡_ {A = ℕ} 0 1 = cc in omega arith))
 told-broken (broken m q) num p = ((λ e. ap₂ broken (cc) (cc)), λ e. ap₂ refused (cc) (cc))
+
+-- an answer that is no refusal is a grant
+pub granted-or-refused : (a : Answer) → T (granted a) ↔ ((num p : ℕ) → a ≢ refused num p)
+granted-or-refused done = ((λ t num p e. absurd (let z : _≡_ {A = ℕ} 0 1 = cc in omega arith)), λ f. tt)
+granted-or-refused (value x) = ((λ t num p e. absurd (let z : _≡_ {A = ℕ} 0 1 = cc in omega arith)), λ f. tt)
+granted-or-refused unused = ((λ t num p e. absurd (let z : _≡_ {A = ℕ} 0 1 = cc in omega arith)), λ f. tt)
+granted-or-refused (file nm i z) = ((λ t num p e. absurd (let z : _≡_ {A = ℕ} 0 1 = cc in omega arith)), λ f. tt)
+granted-or-refused (refused m q) = ((λ t. absurd t), λ f. f m q refl)
 
 -- ---- a volume that breaks a rule
 pub faulty : (B : ℕ) → BlockSize B → (img : List ℕ) → (Consistent B img → ⊥) → (num : ℕ) × (p : ℕ) × FirstBroken B img num p

@@ -56,6 +56,8 @@ pub record RefusalLaws (B : ℕ) (img : List ℕ) : Type 0 where
   -- "A refused request changes no byte of the image or of any buffer"
   pub keeps : (r : Request) → T (not (granted (reply B img r .answer))) → (reply B img r .image ≡ img) × (reply B img r .buffer ≡ lent r)
   pub format-keeps : (label : List ℕ) → T (not (granted (format B img label .answer))) → format B img label .image ≡ img
+  -- "An answer is either granted with its result or refused with a reason"
+  pub granted-or-refused : (a : Answer) → T (granted a) ↔ ((num p : ℕ) → a ≢ refused num p)
 
 -- ---- which answer each request gives: one table a request, with a line for each of its answers
 -- at most 15 bytes, none of them zero: what format takes as the volume's name
