@@ -60,7 +60,7 @@ joined-byte f B (suc j) k (suc d) r h l m =
     ∙ ap (λ (i : ℕ). getD (f i) r 0) (omega arith)
 
 -- a file's blocks have room for its size
-need-enough : (B z : ℕ) → 0 < B → z ≤ need B z * B
+pub need-enough : (B z : ℕ) → 0 < B → z ≤ need B z * B
 unfolding need
 need-enough B z pos = omega (arith, div-add-mod' (z + (B - 1)) B, mod-lt (z + (B - 1)) pos)
 

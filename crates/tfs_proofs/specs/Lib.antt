@@ -26,3 +26,5 @@ pub mod IgnoredSteps
 pub mod Offsets
 pub mod Replies
 pub mod Proved
+pub mod Numbers
+pub mod Bytes

@@ -1,5 +1,5 @@
 -- The layout in raw offsets.
-use mathlib.Core.Path.{_≡_, refl, sym, ap, _∙_}
+use mathlib.Core.Path.{_≡_, sym, ap, _∙_}
 use mathlib.Core.Logic.{_↔_}
 use Prim.Native.Nat.{ℕ, _+_, _*_, _/_, _%_, _^_, _≤_, _<_}
 use mathlib.Core.List.{List, []}
@@ -13,13 +13,14 @@ use Rattle.list_laws.specs.Test.{eqb-of}
 use Rattle.list_laws.specs.Bits.{bit-shift}
 use Rattle.list_laws.specs.Word.{word-cong}
 use Rattle.list_laws.specs.Part.{length-part, getD-part}
-use Rattle.tfs_spec.specs.Layout.{BlockSize, maxBlocks, slots, numbers, block, slot, slotInode, nameField, volumeName, mapBit, inodeSize, inodeNumber}
+use Rattle.tfs_spec.specs.Layout.{BlockSize, maxBlocks, slots, numbers, blocks, block, slot, slotInode, nameField, volumeName, mapBit, inodeSize, inodeNumber}
 use Rattle.tfs_spec.specs.View.{view, free, used, inode, name, size, number, place}
 use Rattle.tfs_spec.specs.Offsets.{numberAt, Bytes, slotAt, InVolume, NameAt, LayoutLaws}
 use Rattle.tfs_facts.specs.Raw.{word-number, part-number, head-number, label-byte}
 use Rattle.tfs_facts.specs.CheckMeans.{Named, free-means, used-means, name-means, length-field}
 use Rattle.tfs_facts.specs.MapWords.{map-bit-word}
 use Rattle.tfs_facts.specs.Views.{view-n, view-head, view-map, view-dir, length-map, length-dir, inode-block}
+use Rattle.tfs_facts.specs.Sizes.{in-image}
 use Rattle.tfs_facts.specs.Stores.{length-block, byte-at}
 
 module _ (B : ℕ) (sz : BlockSize B) (img : List ℕ) (long : 3 * B ≤ length img) where
@@ -139,13 +140,22 @@ module _ (B : ℕ) (sz : BlockSize B) (img : List ℕ) (long : 3 * B ≤ length 
           ∙ part-number (inode (view B img) s * B) B img (4 + 4 * k) (omega arith)
           ∙ ap (numberAt img) (omega arith)
 
-  content-place : (s p : ℕ) → place B (view B img) s p ≡ number (view B img) s (p / B) * B + p % B
+  content-place : (s p : ℕ) (low : s < slots B) → InVolume B img (inode (view B img) s) → p / B < numbers B → place B (view B img) s p ≡ numberAt img (inode (view B img) s * B + 4 + 4 * (p / B)) * B + p % B
   unfolding place
-  content-place s p = refl
+  content-place s p low there h = ap (λ (n : ℕ). n * B + p % B) (inode-number s low there (p / B) h)
+
+  inside-image : (b : ℕ) → b < blocks B img → b * B + B ≤ length img
+  inside-image b h = in-image B b img h
 
   pub layout-laws : LayoutLaws B img
   layout-laws =
       record {
+        volume = view-n B img;
+        block-long = λ b h. length-block B img b (inside-image b h);
+        block-byte = λ b i h. sym (byte-at B img b i h);
+        head-block = view-head B img;
+        map-block = view-map B img;
+        directory-block = view-dir B img;
         magic-number = head-number B img (omega (arith, sz .large));
         label-length = label-length;
         label-byte = label-byte B img (omega (arith, sz .large));

@@ -5,21 +5,23 @@ use mathlib.Core.List.{List}
 use native.Mathlib.Omega.{arith}
 use lib.ListN.{length}
 use lib.Dec.{T}
-use Rattle.tfs_spec.specs.Layout.{BlockSize, need, blocks, labelAllowed}
+use Rattle.tfs_spec.specs.Layout.{BlockSize, labelAllowed}
 use Rattle.tfs_spec.specs.View.{view}
 use Rattle.tfs_spec.specs.Check.{check}
 use Rattle.tfs_spec.specs.Consistent.{Consistent}
 use Rattle.tfs_spec.specs.Requests.{Answer, value, granted, format, checkAnswer, read, writes, perform, reads, changes}
-use Rattle.tfs_spec.specs.Offsets.{LayoutLaws, NameLaws, NumberLaws}
+use Rattle.tfs_spec.specs.Offsets.{Bytes, LayoutLaws, NameLaws, NumberLaws}
 use Rattle.tfs_spec.specs.Answers.{LabelRule, unhandled, CheckLaws, RefusalLaws, GrantLaws}
-use Rattle.tfs_spec.specs.Effects.{ContentLaws, ChangeLaws, TouchLaws, FormatLaws, ReadLaws, KeptLaws, RoomLaws}
+use Rattle.tfs_spec.specs.Effects.{ContentLaws, ChangeLaws, TouchLaws, FormatLaws, ReadLaws, KeptLaws, ByteLaws, RoomLaws}
 use Rattle.tfs_spec.specs.Handles.{HandleLaws}
 use Rattle.tfs_spec.specs.Laws.{RequestLaws}
 use Rattle.tfs_facts.specs.CheckMeans.{check-means, check-breaks, same-means}
 use Rattle.tfs_facts.specs.Total.{adds-up}
 use Rattle.tfs_facts.specs.Views.{view-n}
+use Rattle.tfs_proofs.specs.Numbers as sizes
+use Rattle.tfs_proofs.specs.Bytes as stay
 use Rattle.tfs_proofs.specs.Offsets as offsets
-use Rattle.tfs_proofs.specs.Content.{content-joined}
+use Rattle.tfs_proofs.specs.Content.{length-content, content-joined}
 use Rattle.tfs_proofs.specs.Others.{stands, stands-not}
 use Rattle.tfs_proofs.specs.Changes.{changed, stays-consistent, name-on}
 use Rattle.tfs_proofs.specs.Formats.{format-refused, format-grants, format-consistent, format-empty, format-handles, format-past, format-length, format-head, format-map, format-directory}
@@ -46,16 +48,17 @@ pub name-laws : NameLaws
 name-laws = record { same = same-means }
 
 pub number-laws : NumberLaws
-unfolding blocks need
 number-laws =
     record {
-      large = λ img h. omega arith;
-      small = λ img h. omega arith;
+      large = sizes.large;
+      small = sizes.small;
+      enough = sizes.enough;
+      tight = sizes.tight;
+      volume = refl;
       directory = refl;
       inode = refl;
       file = refl;
-      enough = λ z. omega arith;
-      tight = λ z. omega arith;
+      bytes = sizes.four-bytes;
     }
 
 -- ---- Answers
@@ -98,6 +101,7 @@ grant-laws B sz img =
 pub content-laws : (B : ℕ) → BlockSize B → (img : List ℕ) → Consistent B img → ContentLaws B img
 content-laws B sz img ok =
     record {
+      long = length-content B (view B img) img;
       file = content-joined B sz img ok;
       named = λ nm s st. stands B img nm s (stands-at B (view B img) nm (ok .sound) s st) (st .file .slot);
       absent = λ nm none. stands-not B img nm (fresh-high B (view B img) nm none);
@@ -139,6 +143,16 @@ kept-laws B sz img =
       tail-formatted = tail-kept sz img .formatted;
       tail-unread = tail-unread-by B sz img;
       tail-format = λ b same label. (tail-unread sz img b same .format-answer label, tail-unread sz img b same .formatted label);
+    }
+
+pub byte-laws : (B : ℕ) → BlockSize B → B ≤ 65536 → (img : List ℕ) → Bytes img → ByteLaws B img
+byte-laws B sz small img bytes =
+    record {
+      formatted = stay.format-bytes B sz img bytes;
+      created = stay.create-bytes B sz small img bytes;
+      removed = stay.remove-bytes B sz img bytes;
+      written = stay.write-bytes B sz img bytes;
+      read-into = stay.read-bytes B sz img bytes;
     }
 
 pub room-laws : (B : ℕ) → BlockSize B → (img : List ℕ) → Consistent B img → RoomLaws B img

@@ -18,7 +18,7 @@ use Rattle.tfs_spec.specs.Check.{consistent, broken, check, checkView, tooShort
 use Rattle.tfs_spec.specs.Consistent.{Sound}
 use Rattle.tfs_spec.specs.Requests.{Answer, value, file, refused, granted, counted, transferView, writeImage, write}
 use Rattle.tfs_spec.specs.Laws.{Write, request, after, answers, countOf, coversAt, lastAt, WritesLaw, piecesImage, piecesCount, PiecesLaw}
-use Rattle.tfs_facts.specs.Views.{inodes-out}
+use Rattle.tfs_facts.specs.Views.{inodes-out, has}
 use Rattle.tfs_proofs.specs.Content.{contents-at, contents-in, standing-map, content-by}
 use Rattle.tfs_proofs.specs.Writes.{Put, put, Files, effect, step, run, covers, lastOf, last-write, rest-kept, length-step, step-join}
 use Rattle.tfs_proofs.specs.Places.{filesOf, laid, view-kept}
@@ -193,7 +193,7 @@ module _ (B : ℕ) (pos : 0 < B) (img : List ℕ) (passed : check B img ≡ cons
         kept = after-view B pos ws img passed ok;
         bytes = writes-bytes ws;
         others = λ q far.
-            (ap (λ (x : List ℕ). getD x q 0) (after-is B pos ws img passed ok) ∙ rest-kept (filesOf B (view B img)) (map (putOf B (view B img)) ws) img q far);
+            (ap (λ (x : List ℕ). getD x q 0) (after-is B pos ws img passed ok) ∙ rest-kept (filesOf B (view B img)) (map (putOf B (view B img)) ws) img q (λ s p l. far s p (has B img s p l) l));
         long = after-length B pos ws img passed ok;
         named = λ nm.
             (contents-in B (after B img ws) img nm (after-view B pos ws img passed ok)

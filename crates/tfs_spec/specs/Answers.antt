@@ -68,16 +68,16 @@ LabelRule l = (length l ≤ 15) × ((i : ℕ) → i < length l → getD l i 0 �
 abbrev pub NameRule : List ℕ → Type 0
 NameRule nm = (1 ≤ length nm) × LabelRule nm
 
--- the file in slot s has the name nm
+-- slot s is not free and has the name nm
 pub record Stands (B : ℕ) (v : View) (nm : List ℕ) (s : ℕ) : Type 0 where
   pub file : File B v s
   pub named : name v s ≡ nm
 
--- no file has the name nm
+-- the name nm stands nowhere
 abbrev pub Fresh : ℕ → View → List ℕ → Type 0
 Fresh B v nm = (s : ℕ) → Stands B v nm s → ⊥
 
--- the file in slot s has the inode number h
+-- slot s is not free and has the inode number h
 pub record Handled (B : ℕ) (v : View) (h s : ℕ) : Type 0 where
   pub file : File B v s
   pub number : inode v s ≡ h
@@ -103,7 +103,7 @@ pub data FindRule (B : ℕ) (v : View) (nm : List ℕ) (grant : ℕ → Answer) 
   found : (s : ℕ) → NameRule nm → Stands B v nm s → FindRule B v nm grant (grant s)
 
 pub data CreateRule (B : ℕ) (v : View) (nm : List ℕ) (z : ℕ) : Answer → Type 0 where
-  -- 8: "name empty, over 15 bytes, or holding a zero byte"
+  -- 8: as for open and remove
   unnamed : (NameRule nm → ⊥) → CreateRule B v nm z (refused 8 0)
   -- 9: "size over 65,024"
   oversized : NameRule nm → maxSize B < z → CreateRule B v nm z (refused 9 0)

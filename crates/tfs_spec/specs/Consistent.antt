@@ -11,7 +11,7 @@ use Rattle.tfs_spec.specs.Layout.{slots, numbers, maxSize, need, mapBit,
 use Rattle.tfs_spec.specs.View.{View, view, free, used, inode, name, size, number}
 use Rattle.tfs_spec.specs.Offsets.{numberAt}
 
--- slot s holds a file
+-- slot s is not free: on a consistent volume it holds a file
 pub record File (B : ℕ) (v : View) (s : ℕ) : Type 0 where
   pub slot : s < slots B
   pub taken : T (not (free v s))
@@ -36,7 +36,7 @@ pub record Inside (v : View) (b : ℕ) : Type 0 where
 pub record Sound (B : ℕ) (v : View) : Type 0 where
   -- each slot is free or used
   pub formed : (s : ℕ) → s < slots B → T (free v s) ⊎ T (used v s)
-  -- no two slots have one name
+  -- no two files have one name
   pub apart : (s t : ℕ) → File B v s → File B v t → T (sameName (name v s) (name v t)) → s ≡ t
   -- sizes and block numbers are in range, the rest is zero
   pub small : (s : ℕ) → File B v s → size v s ≤ maxSize B

@@ -10,12 +10,14 @@ use lib.Dec.{T, leb, ltb}
 use Rattle.lists.specs.Lists.{In, sum, table, joined, zeros, padTo, bytes4, words, part}
 use Rattle.tfs_spec.specs.Layout.{slots, need, blocks, block, mapBit, slot, sameName, inodeSize, inodeNumber}
 use Rattle.tfs_spec.specs.View.{View, view, free, inode, name, size, number, slotWith, content, Contents, contents, freeBlocks}
+use Rattle.tfs_spec.specs.Offsets.{Bytes}
 use Rattle.tfs_spec.specs.Consistent.{File, Consistent}
-use Rattle.tfs_spec.specs.Requests.{done, value, granted, format, create, remove, read, Change, creates, removes, writes, perform, Request, reply, afterAll}
+use Rattle.tfs_spec.specs.Requests.{done, value, granted, format, create, remove, read, write, Change, creates, removes, writes, perform, Request, reply, afterAll}
 use Rattle.tfs_spec.specs.Answers.{Stands, Fresh, Handled, Vacant}
 
 -- ---- the content of files, and what stands under a name
 pub record ContentLaws (B : ℕ) (img : List ℕ) : Type 0 where
+  pub long : (s : ℕ) → length (content B (view B img) img s) ≡ size (view B img) s
   -- "A file's content is the first size bytes of its listed blocks in order"
   pub file : (s : ℕ) → File B (view B img) s → content B (view B img) img s ≡ take (size (view B img) s) (joined (table (λ k. block B img (number (view B img) s k)) 0 (need B (size (view B img) s))))
   -- under a name stands the content of the file with that name, or none
@@ -179,6 +181,14 @@ pub record KeptLaws (B : ℕ) (a : List ℕ) : Type 0 where
   pub tail-formatted : (label : List ℕ) → Beyond B a (format B a label .image)
   pub tail-unread : (b : List ℕ) → SameVolume B a b → (r : Request) → (reply B a r .answer ≡ reply B b r .answer) × (reply B a r .buffer ≡ reply B b r .buffer) × SameVolume B (reply B a r .image) (reply B b r .image)
   pub tail-format : (b : List ℕ) → SameVolume B a b → (label : List ℕ) → (format B a label .answer ≡ format B b label .answer) × SameVolume B (format B a label .image) (format B b label .image)
+
+-- ---- bytes stay bytes, where sizes fit into four of them
+pub record ByteLaws (B : ℕ) (img : List ℕ) : Type 0 where
+  pub formatted : (label : List ℕ) → Bytes label → Bytes (format B img label .image)
+  pub created : (nm : List ℕ) (z : ℕ) → Bytes nm → Bytes (create B img nm z .image)
+  pub removed : (nm : List ℕ) → Bytes (remove B img nm .image)
+  pub written : (h o : ℕ) (bs : List ℕ) → Bytes bs → Bytes (write B img h o bs .image)
+  pub read-into : (h o : ℕ) (buf : List ℕ) → Bytes buf → Bytes (read B img h o buf .buffer)
 
 -- ---- room
 -- inodes and content blocks, "counted from the directory and inodes"

@@ -10,6 +10,7 @@ use lib.Dec.{T, leb, ltb, eqb}
 use Rattle.lists.specs.Lists.{table, joined}
 use Rattle.tfs_spec.specs.Layout.{block, sameName}
 use Rattle.tfs_spec.specs.View.{view, size, slotOf, slotWith, place, contents}
+use Rattle.tfs_spec.specs.Consistent.{File}
 use Rattle.tfs_spec.specs.Requests.{Answer, done, value, unused, file, refused, granted, Outcome, create, remove, write, Change, perform}
 use Rattle.tfs_spec.specs.Answers.{Handled}
 use Rattle.tfs_spec.specs.Effects.{nameOn}
@@ -59,7 +60,7 @@ pub record WritesLaw (B : ℕ) (img : List ℕ) (ws : List Write) : Type 0 where
   -- "every byte of every file is what the last granted write covering it put there, or its byte before the list if none did"
   pub bytes : (s p : ℕ) → p < size (view B img) s → getD (after B img ws) (place B (view B img) s p) 0 ≡ lastAt B img ws s p (getD img (place B (view B img) s p) 0)
   -- "No other byte of the image has changed"
-  pub others : (q : ℕ) → ((s p : ℕ) → p < size (view B img) s → q ≢ place B (view B img) s p) → getD (after B img ws) q 0 ≡ getD img q 0
+  pub others : (q : ℕ) → ((s p : ℕ) → File B (view B img) s → p < size (view B img) s → q ≢ place B (view B img) s p) → getD (after B img ws) q 0 ≡ getD img q 0
   pub long : length (after B img ws) ≡ length img
   -- the same by name: the bytes of each file that stands
   pub named : (nm : List ℕ) → contents B (after B img ws) nm ≡ Option·map (λ old. table (λ p. lastAt B img ws (slotOf B (view B img) nm) p (getD old p 0)) 0 (length old)) (contents B img nm)

@@ -53,7 +53,7 @@ volumeName head = part 4 16 head
 
 -- ---- block 1, the map
 -- "block b is bit (b mod 32), counted from the least significant, of 32-bit word (b div 32)":
--- big-endian, so bit (b mod 8) of this byte (MapWords.antt proves that the two are the same, for a map of bytes)
+-- big-endian, so bit (b mod 8) of this byte (LayoutLaws.map-bit in Offsets.antt says it in words)
 abbrev pub mapByte : ℕ → ℕ
 mapByte b = 4 * (b / 32) + (3 - b % 32 / 8)
 
@@ -124,9 +124,10 @@ unfoldable pub inodeBlock : ℕ → ℕ → List ℕ → List ℕ
 inodeBlock B size bs = padTo B (words (size ∷ bs))
 
 -- ---- what requests ask of a name
--- not (empty, over 15 bytes, or holding a zero byte); format allows empty
+-- not (over 15 bytes, or holding a zero byte): "format allows empty"
 unfoldable pub labelAllowed : List ℕ → Bool
 labelAllowed name = ltb (length name) 16 && eqb (firstZero name) (length name)
 
+-- and not empty
 unfoldable pub nameAllowed : List ℕ → Bool
 nameAllowed name = leb 1 (length name) && labelAllowed name

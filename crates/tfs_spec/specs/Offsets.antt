@@ -1,12 +1,12 @@
--- The layout in raw offsets: where each byte and each number that the rules speak of stands in the image.
+-- The layout in raw offsets: where each byte and each number of the layout stands in the image.
 use mathlib.Core.Path.{_≡_}
 use mathlib.Core.Logic.{_≢_, _↔_}
 use Prim.Native.Nat.{ℕ, _+_, _*_, _/_, _%_, _^_, _≤_, _<_}
 use mathlib.Core.List.{List}
 use lib.ListN.{length, getD}
 use lib.Dec.{T}
-use Rattle.lists.specs.Lists.{word, part}
-use Rattle.tfs_spec.specs.Layout.{maxBlocks, slots, numbers, maxSize, need, blocks, volumeName, mapBit, sameName}
+use Rattle.lists.specs.Lists.{word, bytes4, part}
+use Rattle.tfs_spec.specs.Layout.{BlockSize, maxBlocks, slots, numbers, maxSize, need, blocks, block, volumeName, mapBit, sameName}
 use Rattle.tfs_spec.specs.View.{view, free, used, inode, name, size, number, place}
 
 -- "All numbers are big-endian": the number in bytes p to p + 3
@@ -34,6 +34,14 @@ pub record NameAt (img : List ℕ) (p k : ℕ) : Type 0 where
 
 -- of an image of three blocks or more
 pub record LayoutLaws (B : ℕ) (img : List ℕ) : Type 0 where
+  -- N
+  pub volume : view B img .n ≡ blocks B img
+  -- "Each block is handed on as a part of the image": block b is the B bytes from b·B on
+  pub block-long : (b : ℕ) → b < blocks B img → length (block B img b) ≡ B
+  pub block-byte : (b i : ℕ) → i < B → getD (block B img b) i 0 ≡ getD img (b * B + i) 0
+  pub head-block : view B img .head ≡ block B img 0
+  pub map-block : view B img .map ≡ block B img 1
+  pub directory-block : view B img .dir ≡ block B img 2
   -- "Block 0: magic in bytes 0..3; volume name in bytes 4..19"
   pub magic-number : word (view B img .head) 0 ≡ numberAt img 0
   pub label-length : length (volumeName (view B img .head)) ≡ 16
@@ -51,21 +59,24 @@ pub record LayoutLaws (B : ℕ) (img : List ℕ) : Type 0 where
   pub inode-size : (s : ℕ) → s < slots B → InVolume B img (inode (view B img) s) → size (view B img) s ≡ numberAt img (inode (view B img) s * B)
   pub inode-number : (s k : ℕ) → s < slots B → InVolume B img (inode (view B img) s) → k < numbers B → number (view B img) s k ≡ numberAt img (inode (view B img) s * B + 4 + 4 * k)
   -- "Content runs through the listed blocks in order"
-  pub content-place : (s p : ℕ) → place B (view B img) s p ≡ number (view B img) s (p / B) * B + p % B
+  pub content-place : (s p : ℕ) → s < slots B → InVolume B img (inode (view B img) s) → p / B < numbers B → place B (view B img) s p ≡ numberAt img (inode (view B img) s * B + 4 + 4 * (p / B)) * B + p % B
 
 -- whether two names are the same is whether they are equal
 pub record NameLaws : Type 0 where
   pub same : (a b : List ℕ) → T (sameName a b) ↔ (a ≡ b)
 
--- ---- the numbers at the block size 512
+-- ---- numbers
 pub record NumberLaws : Type 0 where
   -- "N = the smaller of 4096 and image length divided by 512, rounded down"
-  pub large : (img : List ℕ) → 2097152 ≤ length img → blocks 512 img ≡ 4096
-  pub small : (img : List ℕ) → length img ≤ 2097152 → blocks 512 img ≡ length img / 512
-  -- "25 slots", "127 block numbers", "Largest file 65,024 bytes"
+  pub large : (B : ℕ) → BlockSize B → (img : List ℕ) → 8 * B * B ≤ length img → blocks B img ≡ 8 * B
+  pub small : (B : ℕ) → BlockSize B → (img : List ℕ) → length img ≤ 8 * B * B → blocks B img ≡ length img / B
+  -- ⌈size/512⌉: enough blocks, and no block more
+  pub enough : (B : ℕ) → BlockSize B → (z : ℕ) → z ≤ need B z * B
+  pub tight : (B : ℕ) → BlockSize B → (z : ℕ) → need B z * B < z + B
+  -- "4096", "25 slots", "127 block numbers", "Largest file 65,024 bytes"
+  pub volume : maxBlocks 512 ≡ 4096
   pub directory : slots 512 ≡ 25
   pub inode : numbers 512 ≡ 127
   pub file : maxSize 512 ≡ 65024
-  -- ⌈size/512⌉: enough blocks, and no block more
-  pub enough : (z : ℕ) → z ≤ need 512 z * 512
-  pub tight : (z : ℕ) → need 512 z * 512 < z + 512
+  -- the four bytes of a number below 2^32 are bytes, and tell it
+  pub bytes : (n : ℕ) → n < 4294967296 → Bytes (bytes4 n) × (numberAt (bytes4 n) 0 ≡ n)

@@ -222,7 +222,7 @@ unfoldable pub freeAnswer : ℕ → List ℕ → Answer
 freeAnswer B img = checked (check B img) refused (freeStep B img)
 
 -- ---- requests as values
--- those that change a volume
+-- those that change a volume, but for format
 pub data Change : Type 0 where
   -- name and size
   creates : List ℕ → ℕ → Change
@@ -261,7 +261,7 @@ lent (reads h o buf) = buf
 lent (lists s) = []
 lent counts = []
 
--- check, open, list and free bytes take the image for reading only
+-- check, open, read, list and free bytes take the image for reading only, so that it stays is in the type of their code
 abbrev pub reply : ℕ → List ℕ → Request → Reply
 reply B img (changes c) = record { answer = perform B img c .answer; image = perform B img c .image; buffer = [] }
 reply B img checks = record { answer = checkAnswer B img; image = img; buffer = [] }
