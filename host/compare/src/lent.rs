@@ -1,4 +1,4 @@
-use reference::make::Random;
+use generate::Random;
 
 const MARGIN: usize = 64;
 

@@ -12,8 +12,6 @@ mod drawn;
 mod lent;
 pub mod options;
 mod pair;
-mod rom_forest;
-mod rom_grid;
 mod roms;
 mod run;
 pub mod sides;

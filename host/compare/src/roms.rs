@@ -1,20 +1,20 @@
 //! Sequences of requests on romfs images.
 
-use reference::cases::{romfs_arguments, Arguments, Kind};
-use reference::make::{
-    damage_rom, damage_rom_twice, flat_rom, rom, scramble_rom, seal_volume, tree_rom, Random, Rom,
-    RomPlan,
+use generate::cases::romfs_arguments;
+use generate::romfs::{
+    damage_rom, damage_rom_twice, flat_rom, forest_rom, grid_rom, rom, scramble_rom, seal_volume,
+    tree_rom, Rom, RomPlan,
 };
+use generate::Random;
+use reference::request::{Arguments, Request};
 
-use crate::rom_forest::forest;
-use crate::rom_grid::grid;
 use crate::run::{Comparison, Stop};
 
-const OTHERS: [Kind; 4] = [
-    Kind::RomFind,
-    Kind::RomFind,
-    Kind::RomEntry,
-    Kind::RomContent,
+const OTHERS: [Request; 4] = [
+    Request::RomFind,
+    Request::RomFind,
+    Request::RomEntry,
+    Request::RomContent,
 ];
 
 /// Draws an image and makes a sequence of requests on it.
@@ -22,18 +22,18 @@ pub(crate) fn on_next(comparison: &mut Comparison) -> Result<(), Stop> {
     let (mut made, image) = any_image(&mut comparison.random);
     thin(&mut comparison.random, &mut made);
     let mut pair = comparison.pair(&image);
-    let checked = comparison.ask(&mut pair, Kind::RomCheck, &Arguments::default())?;
+    let checked = comparison.ask(&mut pair, Request::RomCheck, &Arguments::default())?;
     let others = match checked.refusal() {
         0 => 12,
         _ => comparison.random.below(4),
     };
     for _ in 0..others {
-        let kind = comparison.random.pick(&OTHERS);
-        let mut arguments = romfs_arguments(&mut comparison.random, &made, &image, kind);
+        let request = comparison.random.pick(&OTHERS);
+        let mut arguments = romfs_arguments(&mut comparison.random, &made, &image, request);
         if comparison.random.one_in(16) {
             arguments.first = comparison.random.word() >> comparison.random.below(32);
         }
-        comparison.ask(&mut pair, kind, &arguments)?;
+        comparison.ask(&mut pair, request, &arguments)?;
     }
     Ok(())
 }
@@ -57,10 +57,10 @@ fn any_image(random: &mut Random) -> (Rom, Vec<u8>) {
             let image = made.image.clone();
             return (made, image);
         }
-        100..=299 => grid(random),
+        100..=299 => grid_rom(random),
         300..=329 => {
             let count = random.pick(&[100, 300, 300, 600, 600, 1200, 3000]);
-            forest(random, count)
+            forest_rom(random, count)
         }
         _ => {
             let plan = plan(random);

@@ -1,7 +1,7 @@
 use std::time::Instant;
 
-use reference::cases::{Arguments, Kind};
-use reference::make::Random;
+use generate::Random;
+use reference::request::{Arguments, Request};
 
 use crate::{roms, volumes, Answer, Difference, Pair, Side, Tally};
 
@@ -99,15 +99,15 @@ impl Comparison {
     pub(crate) fn ask(
         &mut self,
         pair: &mut Pair,
-        kind: Kind,
+        request: Request,
         arguments: &Arguments,
     ) -> Result<Answer, Stop> {
         if self.tally.requests() >= self.most {
             return Err(Stop::Enough);
         }
-        match pair.request(&mut self.random, kind, arguments) {
+        match pair.request(&mut self.random, request, arguments) {
             Ok(answer) => {
-                self.tally.count(kind, &answer);
+                self.tally.count(request, &answer);
                 Ok(answer)
             }
             Err(difference) => Err(Stop::Differs(difference)),

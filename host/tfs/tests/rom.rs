@@ -4,7 +4,8 @@ mod bench;
 
 use bench::rom::*;
 use bench::{some, Folder};
-use reference::make::{damage_rom, rom, Random, RomPlan};
+use generate::romfs::{damage_rom, rom, RomPlan};
+use generate::Random;
 use reference::romfs::Kind;
 use std::fs;
 use std::os::unix::fs::{MetadataExt, PermissionsExt};

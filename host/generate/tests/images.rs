@@ -1,14 +1,16 @@
-//! The makers keep their word, and the quick checks agree with literal ones.
+//! Generated images are what they are said to be, and the quick checks agree with literal ones.
 
 mod naive;
 
 use std::collections::HashSet;
 
-use reference::cases::{romfs_cases, tfs_cases, Case, Kind};
-use reference::make::{
-    any_volume, damage_rom, damage_rom_twice, damage_volume, damage_volume_twice, flat_rom, rom,
-    scramble_rom, scramble_volume, tree_rom, volume, Random, RomPlan, Shape,
+use generate::romfs::{
+    damage_rom, damage_rom_twice, flat_rom, rom, scramble_rom, tree_rom, RomPlan,
 };
+use generate::tfs::{
+    any_volume, damage_volume, damage_volume_twice, scramble_volume, volume, Shape,
+};
+use generate::Random;
 use reference::{romfs, tfs, Refusal};
 
 fn fault(result: Result<(), Refusal>) -> naive::Fault {
@@ -159,66 +161,4 @@ fn each_rule_of_romfs_is_broken_alone_and_in_pairs() {
         }
     }
     assert_eq!((alone.len(), pairs.len()), (9, 45));
-}
-
-fn numbers(cases: &[Case]) -> HashSet<(Kind, u32)> {
-    cases
-        .iter()
-        .map(|case| (case.kind, case.answer.number))
-        .collect()
-}
-
-#[test]
-fn cases_meet_every_answer_and_stay_small() {
-    let cases = tfs_cases(1, 600, false);
-    let met = numbers(&cases);
-    for number in 0..=7 {
-        assert!(met.contains(&(Kind::TfsCheck, number)), "{number}");
-    }
-    let wanted = [
-        (Kind::TfsFormat, vec![0, 1, 8]),
-        (Kind::TfsOpen, vec![0, 8, 13]),
-        (Kind::TfsRemove, vec![0, 8, 13]),
-        (Kind::TfsCreate, vec![0, 8, 9, 10, 11, 12]),
-        (Kind::TfsRead, vec![0, 14, 15]),
-        (Kind::TfsWrite, vec![0, 14, 15]),
-        (Kind::TfsList, vec![0, 14]),
-        (Kind::TfsFree, vec![0]),
-    ];
-    for (kind, owed) in wanted {
-        for number in owed {
-            assert!(met.contains(&(kind, number)), "{kind:?} {number}");
-        }
-    }
-    assert!(cases.iter().map(|case| case.image.len()).sum::<usize>() < 5 << 20);
-
-    let cases = romfs_cases(1, 600);
-    let met = numbers(&cases);
-    for number in [0, 21, 22, 23, 24, 25, 26, 27, 28, 29] {
-        assert!(met.contains(&(Kind::RomCheck, number)), "{number}");
-    }
-    for number in [0, 30, 31] {
-        assert!(met.contains(&(Kind::RomFind, number)), "{number}");
-    }
-    for kind in [Kind::RomEntry, Kind::RomLength] {
-        assert!(met.contains(&(kind, 0)) && met.contains(&(kind, 31)));
-    }
-    assert!(cases
-        .iter()
-        .any(|case| case.kind == Kind::RomContent && !case.answer.text.is_empty()));
-}
-
-#[test]
-fn the_same_seed_gives_the_same_cases() {
-    assert_eq!(tfs_cases(5, 40, false), tfs_cases(5, 40, false));
-    assert_eq!(romfs_cases(5, 40), romfs_cases(5, 40));
-    assert_ne!(romfs_cases(5, 40), romfs_cases(6, 40));
-}
-
-#[test]
-fn large_cases_stand_at_the_end() {
-    let cases = tfs_cases(5, 20, true);
-    assert_eq!(cases.len(), 20);
-    assert!(cases[11..].iter().all(|case| case.image.len() >= 2_097_152));
-    assert!(cases[..11].iter().all(|case| case.image.len() < 100_000));
 }

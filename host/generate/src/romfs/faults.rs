@@ -2,10 +2,12 @@
 
 use std::ops::Range;
 
-use super::rom_words::{seal_header, seal_volume, set, set_next};
-use super::{Placed, Random, Rom};
-use crate::romfs::Kind;
-use crate::Refusal;
+use reference::romfs::Kind;
+use reference::Refusal;
+
+use super::builder::{Placed, Rom};
+use super::words::{seal_header, seal_volume, set, set_next};
+use crate::Random;
 
 /// Breaks one of the rules 21 to 27 and 29 and gives the image with the answer owed to it.
 ///

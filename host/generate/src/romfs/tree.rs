@@ -1,7 +1,9 @@
 //! Allowed romfs images from random trees.
 
-use super::{Random, Rom, RomBuilder};
-use crate::romfs::Kind;
+use reference::romfs::Kind;
+
+use super::builder::{Rom, RomBuilder};
+use crate::Random;
 
 /// What an image is to hold.
 #[derive(Clone, Copy, Debug)]
@@ -29,14 +31,14 @@ impl RomPlan {
 pub fn rom(random: &mut Random, plan: RomPlan) -> Rom {
     let label = label(random);
     let rom = RomBuilder::new(&label);
-    let mut maker = Maker { random, plan, rom };
-    maker.name_noise(16 + label.len());
+    let mut generator = Generator { random, plan, rom };
+    generator.name_noise(16 + label.len());
     if plan.entries > 0 || plan.spine > 1 {
-        maker.list(1, true);
-        maker.gap();
+        generator.list(1, true);
+        generator.gap();
     }
-    maker.aim_links();
-    let mut made = maker.rom.finish();
+    generator.aim_links();
+    let mut made = generator.rom.finish();
     let behind = random.pick(&[0, 0, 0, 1, 15, 16, 64]);
     made.image.extend(random.bytes(behind));
     made
@@ -57,13 +59,13 @@ fn name_length(random: &mut Random) -> usize {
     random.pick(&[1, 1, 2, 3, 6, 14, 15, 16, 17, 31, 32])
 }
 
-struct Maker<'r> {
+struct Generator<'r> {
     random: &'r mut Random,
     plan: RomPlan,
     rom: RomBuilder,
 }
 
-impl Maker<'_> {
+impl Generator<'_> {
     /// Places the entries of one list; one of them carries the spine on if there is more of it.
     fn list(&mut self, depth: usize, on_spine: bool) {
         let carries = on_spine && depth < self.plan.spine;

@@ -1,12 +1,14 @@
 //! Allowed romfs images of many short headers, with many links, in lists long and deep.
 
-use reference::make::{Random, Rom, RomBuilder};
 use reference::romfs::Kind;
+
+use super::builder::{Rom, RomBuilder};
+use crate::Random;
 
 const DEEPEST: usize = 8;
 
 /// Makes a tree of about so many entries; a few of its links may lead to no right header.
-pub(crate) fn forest(random: &mut Random, count: usize) -> Rom {
+pub fn forest_rom(random: &mut Random, count: usize) -> Rom {
     let mut forest = Forest {
         width: random.pick(&[3, 8, 40, count]),
         count,
@@ -98,7 +100,7 @@ mod tests {
         let mut refused = 0;
         let mut deepest = 0;
         for _ in 0..60 {
-            let made = forest(&mut random, 600);
+            let made = forest_rom(&mut random, 600);
             // Some headers share one of 256 equal parts of the image.
             assert!(made.entries.len() >= 600 && made.full_size > 256 * 64);
             match romfs::check(&made.image) {

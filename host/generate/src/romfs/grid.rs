@@ -1,12 +1,14 @@
 //! romfs images of small headers at equal distances whose words are left to chance.
 
-use reference::make::{Random, Rom, RomBuilder};
 use reference::romfs::Kind;
+
+use super::builder::{Rom, RomBuilder};
+use crate::Random;
 
 const HEADER: u32 = 32;
 
 /// Makes an image of sound headers that lead anywhere, mostly forwards.
-pub(crate) fn grid(random: &mut Random) -> Rom {
+pub fn grid_rom(random: &mut Random) -> Rom {
     let count = random.between(1, 24) as u32;
     let full_size = HEADER * (count + 1);
     let mut rom = RomBuilder::new(b"V");

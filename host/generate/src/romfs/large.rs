@@ -1,7 +1,8 @@
 //! Allowed romfs images with many entries, of a plain and known form.
 
-use super::{Rom, RomBuilder};
-use crate::romfs::Kind;
+use reference::romfs::Kind;
+
+use super::builder::{Rom, RomBuilder};
 
 const LABEL: &[u8] = b"large";
 

@@ -1,9 +1,10 @@
 //! romfs images put together from their entries.
 
-use super::rom_words::{seal_header, seal_volume, set, set_next};
-use crate::romfs::Kind;
+use reference::romfs::Kind;
 
-/// An entry of a made image.
+use super::words::{seal_header, seal_volume, set, set_next};
+
+/// An entry of a generated image.
 #[derive(Clone, Debug)]
 pub struct Placed {
     /// The offset of the header.
@@ -47,7 +48,7 @@ impl Placed {
     }
 }
 
-/// A made image and what stands in it.
+/// A generated image and what stands in it.
 #[derive(Clone, Debug)]
 pub struct Rom {
     /// The bytes of the image and perhaps some behind it.
