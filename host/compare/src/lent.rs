@@ -42,3 +42,14 @@ impl Lent {
         Some(equal as isize - self.start as isize)
     }
 }
+
+/// What a request is lent.
+#[derive(Clone, Debug)]
+pub struct Lents {
+    /// The image.
+    pub image: Lent,
+    /// The name.
+    pub name: Lent,
+    /// The buffer.
+    pub buffer: Lent,
+}

@@ -3,8 +3,8 @@ use std::fmt;
 use generate::Random;
 use reference::request::{Arguments, Request};
 
-use crate::sides::Lents;
-use crate::{Answer, Lent};
+use crate::answer::Answer;
+use crate::lent::{Lent, Lents};
 
 /// A program that answers requests.
 pub type Side = fn(Request, &Arguments, &mut Lents) -> Answer;

@@ -4,18 +4,8 @@ use proved::c;
 use reference::request::{self, Arguments, Granted, Request};
 use reference::{romfs, Refusal};
 
-use crate::{Answer, Lent};
-
-/// What a request is lent.
-#[derive(Clone, Debug)]
-pub struct Lents {
-    /// The image.
-    pub image: Lent,
-    /// The name.
-    pub name: Lent,
-    /// The buffer.
-    pub buffer: Lent,
-}
+use crate::answer::Answer;
+use crate::lent::Lents;
 
 /// Answers with the proved library.
 pub fn proved(request: Request, arguments: &Arguments, lents: &mut Lents) -> Answer {

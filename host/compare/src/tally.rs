@@ -2,7 +2,7 @@ use std::fmt;
 
 use reference::request::Request;
 
-use crate::Answer;
+use crate::answer::Answer;
 
 const REQUESTS: [(Request, &str); 13] = [
     (Request::TfsFormat, "format"),

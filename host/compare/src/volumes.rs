@@ -5,9 +5,10 @@ use generate::tfs::{damage_volume, damage_volume_twice, scramble_volume, File, V
 use reference::request::{Arguments, Request};
 use reference::tfs::{BLOCK_SIZE, SLOTS};
 
-use crate::drawn::{any_image, twist};
-use crate::run::{Comparison, Stop};
-use crate::{Answer, Pair};
+use crate::answer::Answer;
+use crate::comparison::{Comparison, Stop};
+use crate::drawn_volumes::{any_image, twist};
+use crate::pair::Pair;
 
 const REQUESTS: [Request; 24] = [
     Request::TfsCreate,

@@ -1,7 +1,7 @@
 //! The two programs agree, and the comparison finds programs that do not.
 
-use compare::sides::{proved, reference, Lents};
-use compare::{options, run, Answer, Found, Limits, Side, Tally};
+use compare::sides::{proved, reference};
+use compare::{options, run, Answer, Found, Lents, Limits, Side, Tally};
 use reference::request::{Arguments, Request};
 
 fn compared(words: &str, side: Side) -> (Tally, Option<Found>) {
