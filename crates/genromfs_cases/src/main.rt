@@ -1,6 +1,8 @@
 // Runs images that genromfs made through the romfs requests: each is accepted or refused as expected, and each path of the input
 // leads to the expected header, entry and content. host/romfs_images.sh makes the input and says what its form is.
-use libc::STDOUT_FILENO;
+use packed::lines::number;
+use packed::lines::text;
+use packed::lines::totals;
 use romfs::ContentAnswer;
 use romfs::EntryAnswer;
 use romfs::FindAnswer;
@@ -17,16 +19,16 @@ struct Verdict {
 struct Place {
     refusal: u32,
     at: u32,
-    length: u32,
+    name_length: u32,
 }
 
 struct Entry {
-    kind: u32,
+    file_type: u32,
     executable: u32,
     info: u32,
     size: u32,
     next: u32,
-    length: u32,
+    name_length: u32,
 }
 
 // ---- what the requests give
@@ -58,16 +60,16 @@ fn refused(n: u32) -> Place {
     Place {
         refusal: n,
         at: 0,
-        length: 0,
+        name_length: 0,
     }
 }
 
-fn of_find(a: FindAnswer, length: u32) -> Place {
+fn of_find(a: FindAnswer, name_length: u32) -> Place {
     match a {
         FindAnswer::Found(at) => Place {
             refusal: 0,
             at: at,
-            length: length,
+            name_length: name_length,
         },
         FindAnswer::Refused(n) => refused(n),
         FindAnswer::Inconsistent(f) => refused(of_fault(f).refusal),
@@ -76,12 +78,12 @@ fn of_find(a: FindAnswer, length: u32) -> Place {
 
 fn nothing() -> Entry {
     Entry {
-        kind: 1000,
+        file_type: 1000,
         executable: 0,
         info: 0,
         size: 0,
         next: 0,
-        length: 0,
+        name_length: 0,
     }
 }
 
@@ -95,12 +97,12 @@ fn of_entry(a: EntryAnswer) -> Entry {
             next,
             name_length,
         } => Entry {
-            kind: kind,
+            file_type: kind,
             executable: executable,
             info: info,
             size: size,
             next: next,
-            length: name_length,
+            name_length: name_length,
         },
         EntryAnswer::Refused(_) => nothing(),
         EntryAnswer::Inconsistent(_) => nothing(),
@@ -108,8 +110,8 @@ fn of_entry(a: EntryAnswer) -> Entry {
 }
 
 // Whether the length request gives the size of a file or a symbolic link, and is refused for the rest.
-fn right_length(a: ContentAnswer, kind: u32, size: u32) -> bool {
-    let data = kind == 2 || kind == 3;
+fn right_length(a: ContentAnswer, file_type: u32, size: u32) -> bool {
+    let data = file_type == 2 || file_type == 3;
     match a {
         ContentAnswer::Length(n) => data && n == size,
         ContentAnswer::Refused(n) => !data && n == 31,
@@ -117,16 +119,7 @@ fn right_length(a: ContentAnswer, kind: u32, size: u32) -> bool {
     }
 }
 
-// ---- lines
-
-fn text(words: &[u8]) {
-    io::write_all(STDOUT_FILENO, words);
-}
-
-fn number(before: &[u8], n: u32) {
-    text(before);
-    io::print_decimal(STDOUT_FILENO, n as u64);
-}
+// ---- lookups
 
 fn difference(k: u32, what: &[u8], want: u32, got: u32) -> bool {
     number(b"\n  lookup ", k);
@@ -135,8 +128,6 @@ fn difference(k: u32, what: &[u8], want: u32, got: u32) -> bool {
     number(b" but ", got);
     false
 }
-
-// ---- lookups
 
 // One name further on a path. The name is read in any case.
 fn step(image: &[u8], from: Place) -> Place {
@@ -159,25 +150,25 @@ fn walk(image: &[u8], names: u32) -> Place {
     place
 }
 
-fn expected(length: u32) -> Entry {
-    let kind = packed::number();
+fn expected(name_length: u32) -> Entry {
+    let file_type = packed::number();
     let executable = packed::number();
     let info = packed::number();
     let size = packed::number();
     let next = packed::number();
     Entry {
-        kind: kind,
+        file_type: file_type,
         executable: executable,
         info: info,
         size: size,
         next: next,
-        length: length,
+        name_length: name_length,
     }
 }
 
 fn same_entry(k: u32, want: Entry, got: Entry) -> bool {
-    if want.kind != got.kind {
-        return difference(k, b": the type", want.kind, got.kind);
+    if want.file_type != got.file_type {
+        return difference(k, b": the type", want.file_type, got.file_type);
     }
     if want.executable != got.executable {
         return difference(k, b": executable", want.executable, got.executable);
@@ -191,8 +182,13 @@ fn same_entry(k: u32, want: Entry, got: Entry) -> bool {
     if want.next != got.next {
         return difference(k, b": the next header", want.next, got.next);
     }
-    if want.length != got.length {
-        return difference(k, b": the length of the name", want.length, got.length);
+    if want.name_length != got.name_length {
+        return difference(
+            k,
+            b": the length of the name",
+            want.name_length,
+            got.name_length,
+        );
     }
     true
 }
@@ -202,7 +198,7 @@ fn same_there(k: u32, image: &[u8], at: u32, want: Entry, content: &[u8]) -> boo
     if !same_entry(k, want, of_entry(romfs::entry(image, at))) {
         return false;
     }
-    if !right_length(romfs::content_length(image, at), want.kind, want.size) {
+    if !right_length(romfs::content_length(image, at), want.file_type, want.size) {
         return difference(k, b": the length of the content", want.size, 0);
     }
     if !spans::search::same(romfs::content(image, at), content) {
@@ -212,13 +208,14 @@ fn same_there(k: u32, image: &[u8], at: u32, want: Entry, content: &[u8]) -> boo
 }
 
 // Lookup number k: whether it comes out as expected.
-fn lookup(k: u32, image: &[u8], space: &mut [u8]) -> bool {
+fn lookup(k: u32, image: &[u8]) -> bool {
     let names = packed::number();
     let place = walk(image, names);
     let refusal = packed::number();
     let at = packed::number();
-    let want = expected(place.length);
-    let n = packed::bytes(space);
+    let want = expected(place.name_length);
+    let mut space = io::large_buffer();
+    let n = packed::bytes(&mut space);
     if refusal != place.refusal {
         return difference(k, b": the refusal", refusal, place.refusal);
     }
@@ -232,12 +229,12 @@ fn lookup(k: u32, image: &[u8], space: &mut [u8]) -> bool {
 }
 
 // So many lookups: how many differ.
-fn lookups(count: u32, image: &[u8], space: &mut [u8]) -> u32 {
+fn lookups(count: u32, image: &[u8]) -> u32 {
     let mut differ: u32 = 0;
     let mut k: u32 = 0;
     while k < count {
         k += 1;
-        if !lookup(k, image, space) {
+        if !lookup(k, image) {
             differ += 1;
         }
     }
@@ -261,27 +258,27 @@ fn judged(image: &[u8]) -> bool {
 }
 
 // The next image: whether all of it comes out as expected.
-fn one(image: &mut [u8], space: &mut [u8]) -> bool {
-    let a = packed::bytes(space);
-    text(&space[0..a]);
-    let n = packed::bytes(image);
+fn one() -> bool {
+    let mut name = io::buffer();
+    let a = packed::bytes(&mut name);
+    text(&name[0..a]);
+    let mut image = io::large_buffer();
+    let n = packed::bytes(&mut image);
     let right = judged(&image[0..n]);
     let count = packed::number();
-    number(b", ", count);
-    text(b" lookups");
-    let differ = lookups(count, &image[0..n], space);
-    number(b", ", differ);
-    text(b" differ\n");
+    let differ = lookups(count, &image[0..n]);
+    text(b", ");
+    totals(count, b" lookups, ", differ);
     right && differ == 0
 }
 
 // So many images: how many differ.
-fn images(count: u32, image: &mut [u8], space: &mut [u8]) -> u32 {
+fn images(count: u32) -> u32 {
     let mut differ: u32 = 0;
     let mut k: u32 = 0;
     while k < count {
         k += 1;
-        if !one(image, space) {
+        if !one() {
             differ += 1;
         }
     }
@@ -290,10 +287,5 @@ fn images(count: u32, image: &mut [u8], space: &mut [u8]) -> u32 {
 
 fn main() {
     let count = packed::number();
-    let mut image = io::large_buffer();
-    let mut space = io::large_buffer();
-    let differ = images(count, &mut image, &mut space);
-    io::print_decimal(STDOUT_FILENO, count as u64);
-    number(b" images, ", differ);
-    text(b" differ\n");
+    totals(count, b" images, ", images(count));
 }
