@@ -34,7 +34,7 @@ fn value_answer(answer: c::Answer) -> Answer {
     Answer::of(&[answer.refusal, answer.place, answer.value])
 }
 
-fn slot_answer(slot: c::tfs::Listed) -> Answer {
+fn slot_answer(slot: c::tfs::Slot) -> Answer {
     let words = [
         slot.refusal,
         slot.place,
@@ -46,11 +46,11 @@ fn slot_answer(slot: c::tfs::Listed) -> Answer {
     Answer::of(&words).named(&slot.name)
 }
 
-fn entry_answer(entry: c::romfs::Described) -> Answer {
+fn entry_answer(entry: c::romfs::Header) -> Answer {
     Answer::of(&[
         entry.refusal,
         entry.place,
-        entry.kind,
+        entry.file_type,
         entry.executable,
         entry.info,
         entry.size,

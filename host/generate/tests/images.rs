@@ -88,7 +88,7 @@ fn each_rule_of_tfs_is_broken_alone_and_in_pairs() {
 fn made_roms_are_allowed() {
     let mut random = Random::new(14);
     let mut deepest = 0;
-    let mut kinds = HashSet::new();
+    let mut types = HashSet::new();
     for _ in 0..3000 {
         let plan = RomPlan::small(&mut random);
         let made = rom(&mut random, plan);
@@ -96,17 +96,20 @@ fn made_roms_are_allowed() {
         assert_eq!(naive::romfs_fault(&made.image), None);
         for placed in &made.entries {
             let entry = romfs::entry(&made.image, placed.at).unwrap();
-            assert_eq!((entry.kind, entry.next), (placed.kind, placed.next));
+            assert_eq!(
+                (entry.file_type, entry.next),
+                (placed.file_type, placed.next)
+            );
             assert_eq!(entry.name_length as usize, placed.name.len());
             deepest = deepest.max(placed.depth);
-            kinds.insert((entry.kind as u32, placed.is_dot(), entry.name_length));
+            types.insert((entry.file_type as u32, placed.is_dot(), entry.name_length));
         }
     }
     assert_eq!(deepest, 8);
     for length in [1, 15, 16, 31, 32] {
-        (0..8).for_each(|kind| assert!(kinds.contains(&(kind, false, length))));
+        (0..8).for_each(|file_type| assert!(types.contains(&(file_type, false, length))));
     }
-    assert!(kinds.contains(&(1, true, 1)) && kinds.contains(&(1, true, 2)));
+    assert!(types.contains(&(1, true, 1)) && types.contains(&(1, true, 2)));
 }
 
 #[test]
@@ -118,12 +121,15 @@ fn large_roms_are_allowed() {
         assert_eq!(naive::romfs_fault(&made.image), None);
         for placed in &made.entries {
             let entry = romfs::entry(&made.image, placed.at).unwrap();
-            assert_eq!((entry.kind, entry.next), (placed.kind, placed.next));
+            assert_eq!(
+                (entry.file_type, entry.next),
+                (placed.file_type, placed.next)
+            );
         }
     }
     let link = romfs::find(&flat.image, 0, b"l00000069").unwrap();
     let file = romfs::find(&flat.image, 0, b"f00000069").unwrap();
-    assert_eq!(romfs::entry(&flat.image, link).unwrap().spec_info, file);
+    assert_eq!(romfs::entry(&flat.image, link).unwrap().info, file);
     let lower = |dir: u32, name: &[u8]| romfs::find(&tree.image, dir, name).unwrap();
     let file = lower(lower(lower(0, b"d04"), b"d03"), b"f02");
     assert_eq!(romfs::content(&tree.image, file), &[2; 20]);

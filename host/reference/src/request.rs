@@ -104,9 +104,9 @@ fn listed(listing: Listing) -> Granted {
 /// The numbers of an entry.
 fn described(entry: romfs::Entry) -> Granted {
     let values = vec![
-        entry.kind as u32,
+        entry.file_type as u32,
         u32::from(entry.executable),
-        entry.spec_info,
+        entry.info,
         entry.size,
         entry.next,
         entry.name_length,

@@ -1,7 +1,7 @@
 //! Arguments of requests on romfs images.
 
 use reference::request::{Arguments, Request};
-use reference::romfs::{self, Kind};
+use reference::romfs::{self, FileType};
 
 use crate::romfs::{Placed, Rom};
 use crate::Random;
@@ -15,8 +15,8 @@ pub fn romfs_arguments(
 ) -> Arguments {
     let content = matches!(request, Request::RomLength | Request::RomContent);
     let fits = |entry: &&Placed| match request {
-        Request::RomFind => entry.kind == Kind::Directory,
-        _ => !content || entry.kind.has_content(),
+        Request::RomFind => entry.file_type == FileType::Directory,
+        _ => !content || entry.file_type.has_content(),
     };
     let mut offsets: Vec<u32> = made
         .entries

@@ -1,6 +1,6 @@
 //! Allowed romfs images from random trees.
 
-use reference::romfs::Kind;
+use reference::romfs::FileType;
 
 use super::builder::{Rom, RomBuilder};
 use crate::Random;
@@ -91,15 +91,19 @@ impl Generator<'_> {
 
     /// Places an entry, and the lists below it, and gives its index.
     fn entry(&mut self, depth: usize, spine: bool) -> usize {
-        let kind = if spine { Kind::Directory } else { self.kind() };
-        let name = self.name(kind, spine);
-        let size = self.size(kind);
-        let index = self.rom.entry(&name, kind, depth);
+        let file_type = if spine {
+            FileType::Directory
+        } else {
+            self.file_type()
+        };
+        let name = self.name(file_type, spine);
+        let size = self.size(file_type);
+        let index = self.rom.entry(&name, file_type, depth);
         if self.random.one_in(3) {
             self.rom.set_executable(index);
         }
-        if matches!(kind, Kind::BlockDevice | Kind::CharDevice) {
-            self.rom.set_spec(index, self.random.word());
+        if matches!(file_type, FileType::BlockDevice | FileType::CharDevice) {
+            self.rom.set_info(index, self.random.word());
         }
         let header = self.rom.entries[index].at as usize;
         self.name_noise(header + 16 + name.len());
@@ -115,8 +119,8 @@ impl Generator<'_> {
     }
 
     /// A type, links and directories more often than others.
-    fn kind(&mut self) -> Kind {
-        use Kind::*;
+    fn file_type(&mut self) -> FileType {
+        use FileType::*;
         self.random.pick(&[
             HardLink,
             HardLink,
@@ -134,8 +138,8 @@ impl Generator<'_> {
     }
 
     /// A name for an entry, now and then "." or "..", which carry no spine.
-    fn name(&mut self, kind: Kind, spine: bool) -> Vec<u8> {
-        let dot = !spine && kind == Kind::Directory && self.random.one_in(3);
+    fn name(&mut self, file_type: FileType, spine: bool) -> Vec<u8> {
+        let dot = !spine && file_type == FileType::Directory && self.random.one_in(3);
         if dot || (!spine && self.random.one_in(25)) {
             self.random.pick(&[&b"."[..], b".."]).to_vec()
         } else {
@@ -158,8 +162,8 @@ impl Generator<'_> {
     }
 
     /// A length of the content, which is 0 for types that have none.
-    fn size(&mut self, kind: Kind) -> usize {
-        if !kind.has_content() {
+    fn size(&mut self, file_type: FileType) -> usize {
+        if !file_type.has_content() {
             return 0;
         }
         let most = self.plan.content;
@@ -191,12 +195,12 @@ impl Generator<'_> {
         for index in 0..self.rom.entries.len() {
             let entry = &mut self.rom.entries[index];
             if entry.is_dot() {
-                self.rom.set_spec(index, self.random.pick(&all));
-            } else if entry.kind == Kind::HardLink {
+                self.rom.set_info(index, self.random.pick(&all));
+            } else if entry.file_type == FileType::HardLink {
                 match self.random.choose(&targets) {
-                    Some(aim) => self.rom.set_spec(index, aim),
+                    Some(aim) => self.rom.set_info(index, aim),
                     None => {
-                        entry.kind = Kind::Fifo;
+                        entry.file_type = FileType::Fifo;
                         self.rom.image[entry.at as usize + 3] |= 7;
                     }
                 }
