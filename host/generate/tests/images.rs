@@ -3,18 +3,75 @@
 mod naive;
 
 use std::collections::HashSet;
+use std::ops::RangeInclusive;
 
 use generate::romfs::{
-    damage_rom, damage_rom_twice, flat_rom, rom, scramble_rom, tree_rom, RomPlan,
+    damage_rom, damage_rom_twice, flat_rom, rom, scramble_rom, tree_rom, Placed, Rom, RomPlan,
 };
 use generate::tfs::{
-    any_volume, damage_volume, damage_volume_twice, scramble_volume, volume, Shape,
+    any_volume, damage_volume, damage_volume_twice, scramble_volume, volume, Shape, Volume,
 };
 use generate::Random;
-use reference::{romfs, tfs, Refusal};
+use reference::romfs::{self, Entry};
+use reference::{tfs, Refusal};
 
-fn fault(result: Result<(), Refusal>) -> naive::Fault {
-    result.err().map(|refusal| (refusal.number, refusal.place))
+/// The checks of a filesystem, and how its images are damaged.
+struct Filesystem<T> {
+    rules: RangeInclusive<u32>,
+    check: fn(&[u8]) -> Result<(), Refusal>,
+    literal: fn(&[u8]) -> naive::Fault,
+    damage: fn(&mut Random, &T, u32) -> Option<(Vec<u8>, Refusal)>,
+    damage_twice: fn(&mut Random, &T, (u32, u32)) -> Option<(Vec<u8>, Refusal)>,
+}
+
+const TFS: Filesystem<Volume> = Filesystem {
+    rules: 1..=7,
+    check: tfs::check,
+    literal: naive::tfs_fault,
+    damage: damage_volume,
+    damage_twice: damage_volume_twice,
+};
+
+const ROMFS: Filesystem<Rom> = Filesystem {
+    rules: 21..=29,
+    check: romfs::check,
+    literal: naive::romfs_fault,
+    damage: damage_rom,
+    damage_twice: damage_rom_twice,
+};
+
+/// The rules broken alone, each with the number owed to it, and the rules broken in pairs.
+#[derive(Default)]
+struct Broken {
+    alone: HashSet<(u32, u32)>,
+    pairs: HashSet<(u32, u32)>,
+}
+
+impl<T> Filesystem<T> {
+    /// The fault of an image, which both checks must give.
+    fn fault(&self, image: &[u8]) -> Option<Refusal> {
+        let fault = (self.check)(image).err();
+        let told = fault.map(|refusal| (refusal.number, refusal.place));
+        assert_eq!(told, (self.literal)(image));
+        fault
+    }
+
+    /// Breaks every rule of an image alone and with every other; each time the fault owed is found.
+    fn break_all(&self, random: &mut Random, made: &T, broken: &mut Broken) {
+        for first in self.rules.clone() {
+            if let Some((image, owed)) = (self.damage)(random, made, first) {
+                assert_eq!(self.fault(&image), Some(owed), "{first}");
+                broken.alone.insert((first, owed.number));
+            }
+            for second in first..=*self.rules.end() {
+                let rules = (first, second);
+                if let Some((image, owed)) = (self.damage_twice)(random, made, rules) {
+                    assert_eq!(self.fault(&image), Some(owed), "{rules:?}");
+                    broken.pairs.insert(rules);
+                }
+            }
+        }
+    }
 }
 
 #[test]
@@ -23,8 +80,7 @@ fn made_volumes_are_consistent() {
     for round in 0..600 {
         let most = if round % 100 == 0 { 4096 } else { 200 };
         let made = any_volume(&mut random, most);
-        assert_eq!(tfs::check(&made.image), Ok(()));
-        assert_eq!(naive::tfs_fault(&made.image), None);
+        assert_eq!(TFS.fault(&made.image), None);
         for file in &made.files {
             assert_eq!(tfs::open(&made.image, &file.name), Ok(file.inode));
         }
@@ -58,30 +114,23 @@ fn shapes_are_what_they_say() {
 #[test]
 fn each_rule_of_tfs_is_broken_alone_and_in_pairs() {
     let mut random = Random::new(13);
-    let mut alone = HashSet::new();
-    let mut pairs = HashSet::new();
+    let mut broken = Broken::default();
     for _ in 0..800 {
         let made = any_volume(&mut random, 40);
-        for first in 1..=7 {
-            if let Some((image, owed)) = damage_volume(&mut random, &made, first) {
-                assert_eq!(owed.number, first);
-                assert_eq!(tfs::check(&image), Err(owed));
-                assert_eq!(naive::tfs_fault(&image), Some((owed.number, owed.place)));
-                alone.insert(first);
-            }
-            for second in first..=7 {
-                let rules = (first, second);
-                if let Some((image, owed)) = damage_volume_twice(&mut random, &made, rules) {
-                    assert_eq!(tfs::check(&image), Err(owed), "{rules:?}");
-                    assert_eq!(naive::tfs_fault(&image), Some((owed.number, owed.place)));
-                    pairs.insert(rules);
-                }
-            }
-        }
-        let image = scramble_volume(&mut random, &made);
-        assert_eq!(fault(tfs::check(&image)), naive::tfs_fault(&image));
+        TFS.break_all(&mut random, &made, &mut broken);
+        TFS.fault(&scramble_volume(&mut random, &made));
     }
-    assert_eq!((alone.len(), pairs.len()), (7, 28));
+    assert!(broken.alone.iter().all(|(rule, number)| rule == number));
+    assert_eq!((broken.alone.len(), broken.pairs.len()), (7, 28));
+}
+
+/// What the header of a placed entry says, which is as it was placed.
+fn entry_of(made: &Rom, placed: &Placed) -> Entry {
+    let entry = romfs::entry(&made.image, placed.at).unwrap();
+    assert_eq!(entry.file_type, placed.file_type);
+    assert_eq!(entry.next, placed.next);
+    assert_eq!(entry.name_length as usize, placed.name.len());
+    entry
 }
 
 #[test]
@@ -92,15 +141,9 @@ fn made_roms_are_allowed() {
     for _ in 0..3000 {
         let plan = RomPlan::small(&mut random);
         let made = rom(&mut random, plan);
-        assert_eq!(romfs::check(&made.image), Ok(()));
-        assert_eq!(naive::romfs_fault(&made.image), None);
+        assert_eq!(ROMFS.fault(&made.image), None);
         for placed in &made.entries {
-            let entry = romfs::entry(&made.image, placed.at).unwrap();
-            assert_eq!(
-                (entry.file_type, entry.next),
-                (placed.file_type, placed.next)
-            );
-            assert_eq!(entry.name_length as usize, placed.name.len());
+            let entry = entry_of(&made, placed);
             deepest = deepest.max(placed.depth);
             types.insert((entry.file_type as u32, placed.is_dot(), entry.name_length));
         }
@@ -118,13 +161,9 @@ fn large_roms_are_allowed() {
     let tree = tree_rom(5, 3, 20);
     for (made, count) in [(&flat, 370), (&tree, 155)] {
         assert_eq!(made.entries.len(), count);
-        assert_eq!(naive::romfs_fault(&made.image), None);
+        assert_eq!(ROMFS.fault(&made.image), None);
         for placed in &made.entries {
-            let entry = romfs::entry(&made.image, placed.at).unwrap();
-            assert_eq!(
-                (entry.file_type, entry.next),
-                (placed.file_type, placed.next)
-            );
+            entry_of(made, placed);
         }
     }
     let link = romfs::find(&flat.image, 0, b"l00000069").unwrap();
@@ -138,33 +177,18 @@ fn large_roms_are_allowed() {
 #[test]
 fn each_rule_of_romfs_is_broken_alone_and_in_pairs() {
     let mut random = Random::new(15);
-    let mut alone = HashSet::new();
-    let mut pairs = HashSet::new();
+    let mut broken = Broken::default();
     for round in 0..1500 {
         let mut plan = RomPlan::small(&mut random);
         if round % 3 == 0 {
             plan.spine = 9;
         }
         let made = rom(&mut random, plan);
-        for first in 21..=29 {
-            if let Some((image, owed)) = damage_rom(&mut random, &made, first) {
-                assert_eq!(romfs::check(&image), Err(owed), "{first}");
-                assert_eq!(naive::romfs_fault(&image), Some((owed.number, owed.place)));
-                alone.insert(owed.number);
-            }
-            for second in first..=29 {
-                let rules = (first, second);
-                if let Some((image, owed)) = damage_rom_twice(&mut random, &made, rules) {
-                    assert_eq!(romfs::check(&image), Err(owed), "{rules:?}");
-                    assert_eq!(naive::romfs_fault(&image), Some((owed.number, owed.place)));
-                    pairs.insert(rules);
-                }
-            }
-        }
+        ROMFS.break_all(&mut random, &made, &mut broken);
         for _ in 0..4 {
-            let image = scramble_rom(&mut random, &made);
-            assert_eq!(fault(romfs::check(&image)), naive::romfs_fault(&image));
+            ROMFS.fault(&scramble_rom(&mut random, &made));
         }
     }
-    assert_eq!((alone.len(), pairs.len()), (9, 45));
+    let numbers: HashSet<u32> = broken.alone.iter().map(|(_, number)| *number).collect();
+    assert_eq!((numbers.len(), broken.pairs.len()), (9, 45));
 }
