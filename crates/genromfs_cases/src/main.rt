@@ -22,15 +22,6 @@ struct Place {
     name_length: u32,
 }
 
-struct Entry {
-    file_type: u32,
-    executable: u32,
-    info: u32,
-    size: u32,
-    next: u32,
-    name_length: u32,
-}
-
 // ---- what the requests give
 
 fn of_fault(f: Fault) -> Verdict {
@@ -76,18 +67,8 @@ fn of_find(a: FindAnswer, name_length: u32) -> Place {
     }
 }
 
-fn nothing() -> Entry {
-    Entry {
-        file_type: 1000,
-        executable: 0,
-        info: 0,
-        size: 0,
-        next: 0,
-        name_length: 0,
-    }
-}
-
-fn of_entry(a: EntryAnswer) -> Entry {
+// An entry: type, executable, spec.info, size, next header, length of the name. No entry has the type of a refused one.
+fn of_entry(a: EntryAnswer) -> [u32; 6] {
     match a {
         EntryAnswer::Entry {
             kind,
@@ -96,16 +77,9 @@ fn of_entry(a: EntryAnswer) -> Entry {
             size,
             next,
             name_length,
-        } => Entry {
-            file_type: kind,
-            executable: executable,
-            info: info,
-            size: size,
-            next: next,
-            name_length: name_length,
-        },
-        EntryAnswer::Refused(_) => nothing(),
-        EntryAnswer::Inconsistent(_) => nothing(),
+        } => [kind, executable, info, size, next, name_length],
+        EntryAnswer::Refused(_) => [1000, 0, 0, 0, 0, 0],
+        EntryAnswer::Inconsistent(_) => [1000, 0, 0, 0, 0, 0],
     }
 }
 
@@ -121,12 +95,22 @@ fn right_length(a: ContentAnswer, file_type: u32, size: u32) -> bool {
 
 // ---- lookups
 
-fn difference(k: u32, what: &[u8], want: u32, got: u32) -> bool {
-    number(b"\n  lookup ", k);
-    text(what);
-    number(b" is not ", want);
-    number(b" but ", got);
-    false
+// Whether something of lookup number k is right. If not, the name of it is printed.
+fn right(k: u32, what: &[u8], holds: bool) -> bool {
+    if !holds {
+        number(b"\n  lookup ", k);
+        text(what);
+    }
+    holds
+}
+
+// Whether two numbers are the same. If not, they are printed.
+fn same(k: u32, what: &[u8], want: u32, got: u32) -> bool {
+    if !right(k, what, want == got) {
+        number(b" is not ", want);
+        number(b" but ", got);
+    }
+    want == got
 }
 
 // One name further on a path. The name is read in any case.
@@ -150,61 +134,30 @@ fn walk(image: &[u8], names: u32) -> Place {
     place
 }
 
-fn expected(name_length: u32) -> Entry {
+// The entry that a lookup is to find; the length of its name is that of the last name of the path.
+fn expected(name_length: u32) -> [u32; 6] {
     let file_type = packed::number();
     let executable = packed::number();
     let info = packed::number();
     let size = packed::number();
     let next = packed::number();
-    Entry {
-        file_type: file_type,
-        executable: executable,
-        info: info,
-        size: size,
-        next: next,
-        name_length: name_length,
-    }
+    [file_type, executable, info, size, next, name_length]
 }
 
-fn same_entry(k: u32, want: Entry, got: Entry) -> bool {
-    if want.file_type != got.file_type {
-        return difference(k, b": the type", want.file_type, got.file_type);
-    }
-    if want.executable != got.executable {
-        return difference(k, b": executable", want.executable, got.executable);
-    }
-    if want.info != got.info {
-        return difference(k, b": spec.info", want.info, got.info);
-    }
-    if want.size != got.size {
-        return difference(k, b": the size", want.size, got.size);
-    }
-    if want.next != got.next {
-        return difference(k, b": the next header", want.next, got.next);
-    }
-    if want.name_length != got.name_length {
-        return difference(
-            k,
-            b": the length of the name",
-            want.name_length,
-            got.name_length,
-        );
-    }
-    true
+fn same_entry(k: u32, want: [u32; 6], got: [u32; 6]) -> bool {
+    same(k, b": the type", want[0], got[0])
+        && same(k, b": executable", want[1], got[1])
+        && same(k, b": spec.info", want[2], got[2])
+        && same(k, b": the size", want[3], got[3])
+        && same(k, b": the next header", want[4], got[4])
+        && same(k, b": the length of the name", want[5], got[5])
 }
 
-// What the header found holds.
-fn same_there(k: u32, image: &[u8], at: u32, want: Entry, content: &[u8]) -> bool {
-    if !same_entry(k, want, of_entry(romfs::entry(image, at))) {
-        return false;
-    }
-    if !right_length(romfs::content_length(image, at), want.file_type, want.size) {
-        return difference(k, b": the length of the content", want.size, 0);
-    }
-    if !spans::search::same(romfs::content(image, at), content) {
-        return difference(k, b": the content", 0, 0);
-    }
-    true
+fn same_content(k: u32, image: &[u8], at: u32, file_type: u32, size: u32, content: &[u8]) -> bool {
+    let length = right_length(romfs::content_length(image, at), file_type, size);
+    let bytes = spans::search::same(romfs::content(image, at), content);
+    right(k, b": the length of the content differs", length)
+        && right(k, b": the content differs", bytes)
 }
 
 // Lookup number k: whether it comes out as expected.
@@ -216,16 +169,14 @@ fn lookup(k: u32, image: &[u8]) -> bool {
     let want = expected(place.name_length);
     let mut space = io::large_buffer();
     let n = packed::bytes(&mut space);
-    if refusal != place.refusal {
-        return difference(k, b": the refusal", refusal, place.refusal);
+    if !same(k, b": the refusal", refusal, place.refusal)
+        || !same(k, b": the header", at, place.at)
+    {
+        return false;
     }
-    if at != place.at {
-        return difference(k, b": the header", at, place.at);
-    }
-    if refusal != 0 {
-        return true;
-    }
-    same_there(k, image, at, want, &space[0..n])
+    refusal != 0
+        || same_entry(k, want, of_entry(romfs::entry(image, at)))
+            && same_content(k, image, at, want[0], want[3], &space[0..n])
 }
 
 // So many lookups: how many differ.
