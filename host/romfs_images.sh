@@ -21,7 +21,7 @@
 #       names    number, then so many bytes    a path: each name is found in the directory that the one before it gave
 #       refusal  number   of the last find, 0 if found; all that follows is then 0 or empty if it is not
 #       header   number   the offset found
-#       kind     number   the entry at that header: type,
+#       type     number   the entry at that header: its type,
 #       exec     number   executable (0 or 1),
 #       info     number   spec.info,
 #       size     number
@@ -95,26 +95,26 @@ found() {
     path "$1"
     number 0
     number $(($2))
-    type=$(($3 >> 12)) exec=0 info=0
-    [ "$7" = - ] || type=-1
-    case $type in
-        -1) kind=0 info=$(($7)) ;;
-        4) kind=1 exec=$((($3 & 73) != 0)) info=$(or_zero "$6") ;;
-        8) kind=2 exec=$((($3 & 73) != 0)) ;;
-        10) kind=3 ;;
-        6) kind=4 info=$(device "$1") ;;
-        2) kind=5 info=$(device "$1") ;;
-        12) kind=6 ;;
-        1) kind=7 ;;
+    format=$(($3 >> 12)) exec=0 info=0
+    [ "$7" = - ] || format=-1
+    case $format in
+        -1) file_type=0 info=$(($7)) ;;
+        4) file_type=1 exec=$((($3 & 73) != 0)) info=$(or_zero "$6") ;;
+        8) file_type=2 exec=$((($3 & 73) != 0)) ;;
+        10) file_type=3 ;;
+        6) file_type=4 info=$(device "$1") ;;
+        2) file_type=5 info=$(device "$1") ;;
+        12) file_type=6 ;;
+        1) file_type=7 ;;
     esac
     # the root's own "." is a directory, and the first header of its list is itself
     case $1 in . | ./.) info=$(($2)) ;; esac
-    number $kind
+    number $file_type
     number $exec
     number $info
     number "$4"
     number "$(or_zero "$5")"
-    case $kind in
+    case $file_type in
         2) file "$tree/$1" ;;
         3) word "$(readlink "$tree/$1")" ;;
         *) number 0 ;;

@@ -1,6 +1,8 @@
 // Runs images that genromfs made through the romfs requests: each is accepted or refused as expected, and each path of the input
 // leads to the expected header, entry and content. host/romfs_images.sh makes the input and says what its form is.
-use libc::STDOUT_FILENO;
+use packed::lines::number;
+use packed::lines::text;
+use packed::lines::totals;
 use romfs::ContentAnswer;
 use romfs::EntryAnswer;
 use romfs::FindAnswer;
@@ -17,16 +19,7 @@ struct Verdict {
 struct Place {
     refusal: u32,
     at: u32,
-    length: u32,
-}
-
-struct Entry {
-    kind: u32,
-    executable: u32,
-    info: u32,
-    size: u32,
-    next: u32,
-    length: u32,
+    name_length: u32,
 }
 
 // ---- what the requests give
@@ -58,34 +51,24 @@ fn refused(n: u32) -> Place {
     Place {
         refusal: n,
         at: 0,
-        length: 0,
+        name_length: 0,
     }
 }
 
-fn of_find(a: FindAnswer, length: u32) -> Place {
+fn of_find(a: FindAnswer, name_length: u32) -> Place {
     match a {
         FindAnswer::Found(at) => Place {
             refusal: 0,
             at: at,
-            length: length,
+            name_length: name_length,
         },
         FindAnswer::Refused(n) => refused(n),
         FindAnswer::Inconsistent(f) => refused(of_fault(f).refusal),
     }
 }
 
-fn nothing() -> Entry {
-    Entry {
-        kind: 1000,
-        executable: 0,
-        info: 0,
-        size: 0,
-        next: 0,
-        length: 0,
-    }
-}
-
-fn of_entry(a: EntryAnswer) -> Entry {
+// An entry: type, executable, spec.info, size, next header, length of the name. No entry has the type of a refused one.
+fn of_entry(a: EntryAnswer) -> [u32; 6] {
     match a {
         EntryAnswer::Entry {
             kind,
@@ -94,22 +77,15 @@ fn of_entry(a: EntryAnswer) -> Entry {
             size,
             next,
             name_length,
-        } => Entry {
-            kind: kind,
-            executable: executable,
-            info: info,
-            size: size,
-            next: next,
-            length: name_length,
-        },
-        EntryAnswer::Refused(_) => nothing(),
-        EntryAnswer::Inconsistent(_) => nothing(),
+        } => [kind, executable, info, size, next, name_length],
+        EntryAnswer::Refused(_) => [1000, 0, 0, 0, 0, 0],
+        EntryAnswer::Inconsistent(_) => [1000, 0, 0, 0, 0, 0],
     }
 }
 
 // Whether the length request gives the size of a file or a symbolic link, and is refused for the rest.
-fn right_length(a: ContentAnswer, kind: u32, size: u32) -> bool {
-    let data = kind == 2 || kind == 3;
+fn right_length(a: ContentAnswer, file_type: u32, size: u32) -> bool {
+    let data = file_type == 2 || file_type == 3;
     match a {
         ContentAnswer::Length(n) => data && n == size,
         ContentAnswer::Refused(n) => !data && n == 31,
@@ -117,26 +93,25 @@ fn right_length(a: ContentAnswer, kind: u32, size: u32) -> bool {
     }
 }
 
-// ---- lines
-
-fn text(words: &[u8]) {
-    io::write_all(STDOUT_FILENO, words);
-}
-
-fn number(before: &[u8], n: u32) {
-    text(before);
-    io::print_decimal(STDOUT_FILENO, n as u64);
-}
-
-fn difference(k: u32, what: &[u8], want: u32, got: u32) -> bool {
-    number(b"\n  lookup ", k);
-    text(what);
-    number(b" is not ", want);
-    number(b" but ", got);
-    false
-}
-
 // ---- lookups
+
+// Whether something of lookup number k is right. If not, the name of it is printed.
+fn right(k: u32, what: &[u8], holds: bool) -> bool {
+    if !holds {
+        number(b"\n  lookup ", k);
+        text(what);
+    }
+    holds
+}
+
+// Whether two numbers are the same. If not, they are printed.
+fn same(k: u32, what: &[u8], want: u32, got: u32) -> bool {
+    if !right(k, what, want == got) {
+        number(b" is not ", want);
+        number(b" but ", got);
+    }
+    want == got
+}
 
 // One name further on a path. The name is read in any case.
 fn step(image: &[u8], from: Place) -> Place {
@@ -159,85 +134,58 @@ fn walk(image: &[u8], names: u32) -> Place {
     place
 }
 
-fn expected(length: u32) -> Entry {
-    let kind = packed::number();
+// The entry that a lookup is to find; the length of its name is that of the last name of the path.
+fn expected(name_length: u32) -> [u32; 6] {
+    let file_type = packed::number();
     let executable = packed::number();
     let info = packed::number();
     let size = packed::number();
     let next = packed::number();
-    Entry {
-        kind: kind,
-        executable: executable,
-        info: info,
-        size: size,
-        next: next,
-        length: length,
-    }
+    [file_type, executable, info, size, next, name_length]
 }
 
-fn same_entry(k: u32, want: Entry, got: Entry) -> bool {
-    if want.kind != got.kind {
-        return difference(k, b": the type", want.kind, got.kind);
-    }
-    if want.executable != got.executable {
-        return difference(k, b": executable", want.executable, got.executable);
-    }
-    if want.info != got.info {
-        return difference(k, b": spec.info", want.info, got.info);
-    }
-    if want.size != got.size {
-        return difference(k, b": the size", want.size, got.size);
-    }
-    if want.next != got.next {
-        return difference(k, b": the next header", want.next, got.next);
-    }
-    if want.length != got.length {
-        return difference(k, b": the length of the name", want.length, got.length);
-    }
-    true
+fn same_entry(k: u32, want: [u32; 6], got: [u32; 6]) -> bool {
+    same(k, b": the type", want[0], got[0])
+        && same(k, b": executable", want[1], got[1])
+        && same(k, b": spec.info", want[2], got[2])
+        && same(k, b": the size", want[3], got[3])
+        && same(k, b": the next header", want[4], got[4])
+        && same(k, b": the length of the name", want[5], got[5])
 }
 
-// What the header found holds.
-fn same_there(k: u32, image: &[u8], at: u32, want: Entry, content: &[u8]) -> bool {
-    if !same_entry(k, want, of_entry(romfs::entry(image, at))) {
-        return false;
-    }
-    if !right_length(romfs::content_length(image, at), want.kind, want.size) {
-        return difference(k, b": the length of the content", want.size, 0);
-    }
-    if !spans::search::same(romfs::content(image, at), content) {
-        return difference(k, b": the content", 0, 0);
-    }
-    true
+fn same_content(k: u32, image: &[u8], at: u32, file_type: u32, size: u32, content: &[u8]) -> bool {
+    let length = right_length(romfs::content_length(image, at), file_type, size);
+    let bytes = spans::search::same(romfs::content(image, at), content);
+    right(k, b": the length of the content differs", length)
+        && right(k, b": the content differs", bytes)
 }
 
 // Lookup number k: whether it comes out as expected.
-fn lookup(k: u32, image: &[u8], space: &mut [u8]) -> bool {
+fn lookup(k: u32, image: &[u8]) -> bool {
     let names = packed::number();
     let place = walk(image, names);
     let refusal = packed::number();
     let at = packed::number();
-    let want = expected(place.length);
-    let n = packed::bytes(space);
-    if refusal != place.refusal {
-        return difference(k, b": the refusal", refusal, place.refusal);
+    let want = expected(place.name_length);
+    let mut space = io::large_buffer();
+    let n = packed::bytes(&mut space);
+    if !same(k, b": the refusal", refusal, place.refusal)
+        || !same(k, b": the header", at, place.at)
+    {
+        return false;
     }
-    if at != place.at {
-        return difference(k, b": the header", at, place.at);
-    }
-    if refusal != 0 {
-        return true;
-    }
-    same_there(k, image, at, want, &space[0..n])
+    refusal != 0
+        || same_entry(k, want, of_entry(romfs::entry(image, at)))
+            && same_content(k, image, at, want[0], want[3], &space[0..n])
 }
 
 // So many lookups: how many differ.
-fn lookups(count: u32, image: &[u8], space: &mut [u8]) -> u32 {
+fn lookups(count: u32, image: &[u8]) -> u32 {
     let mut differ: u32 = 0;
     let mut k: u32 = 0;
     while k < count {
         k += 1;
-        if !lookup(k, image, space) {
+        if !lookup(k, image) {
             differ += 1;
         }
     }
@@ -261,27 +209,27 @@ fn judged(image: &[u8]) -> bool {
 }
 
 // The next image: whether all of it comes out as expected.
-fn one(image: &mut [u8], space: &mut [u8]) -> bool {
-    let a = packed::bytes(space);
-    text(&space[0..a]);
-    let n = packed::bytes(image);
+fn one() -> bool {
+    let mut name = io::buffer();
+    let a = packed::bytes(&mut name);
+    text(&name[0..a]);
+    let mut image = io::large_buffer();
+    let n = packed::bytes(&mut image);
     let right = judged(&image[0..n]);
     let count = packed::number();
-    number(b", ", count);
-    text(b" lookups");
-    let differ = lookups(count, &image[0..n], space);
-    number(b", ", differ);
-    text(b" differ\n");
+    let differ = lookups(count, &image[0..n]);
+    text(b", ");
+    totals(count, b" lookups, ", differ);
     right && differ == 0
 }
 
 // So many images: how many differ.
-fn images(count: u32, image: &mut [u8], space: &mut [u8]) -> u32 {
+fn images(count: u32) -> u32 {
     let mut differ: u32 = 0;
     let mut k: u32 = 0;
     while k < count {
         k += 1;
-        if !one(image, space) {
+        if !one() {
             differ += 1;
         }
     }
@@ -290,10 +238,5 @@ fn images(count: u32, image: &mut [u8], space: &mut [u8]) -> u32 {
 
 fn main() {
     let count = packed::number();
-    let mut image = io::large_buffer();
-    let mut space = io::large_buffer();
-    let differ = images(count, &mut image, &mut space);
-    io::print_decimal(STDOUT_FILENO, count as u64);
-    number(b" images, ", differ);
-    text(b" differ\n");
+    totals(count, b" images, ", images(count));
 }

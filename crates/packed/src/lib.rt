@@ -7,6 +7,9 @@ ghost use lib.ListN.{length};
 ghost use Rattle.packed.specs.Hash.{times, hashStep, hashOn};
 use spans::words::be32;
 
+pub mod cases;
+pub mod lines;
+
 // A single byte; 0 where the input has ended.
 pub fn byte() -> u32
     ensures { λ r. ⌜ r < 2 ^ 8 ⌝ }

@@ -1,40 +1,19 @@
-// Runs packed test cases, made by a second program, through the romfs requests, and compares refusal, place, values, content, and
-// the hash of the image. One line for each case that differs, then the counts. The input is that of host/reference:
+// Runs packed test cases through the romfs requests and compares refusal, place, values, content, and the hash of the image. One
+// line for each case that differs, then the counts. The input is that of host/generate:
 // pack romfs crates/rom_cases/stdin --seed 1 --cases 1000
-use libc::STDOUT_FILENO;
+use packed::cases::Given;
+use packed::cases::Outcome;
+use packed::cases::done;
+use packed::cases::granted;
+use packed::cases::one;
+use packed::cases::refused;
 use romfs::ContentAnswer;
 use romfs::EntryAnswer;
 use romfs::FindAnswer;
 use romfs_check::CheckAnswer;
 use romfs_check::Fault;
 
-// A refusal with its place, or values.
-struct Outcome {
-    refusal: u32,
-    place: u32,
-    count: u32,
-    values: [u32; 6],
-}
-
 // ---- what the requests give
-
-fn refused(refusal: u32, place: u32) -> Outcome {
-    Outcome {
-        refusal: refusal,
-        place: place,
-        count: 0,
-        values: [0, 0, 0, 0, 0, 0],
-    }
-}
-
-fn granted(count: u32, value: u32) -> Outcome {
-    Outcome {
-        refusal: 0,
-        place: 0,
-        count: count,
-        values: [value, 0, 0, 0, 0, 0],
-    }
-}
 
 fn of_fault(f: Fault) -> Outcome {
     match f {
@@ -45,14 +24,14 @@ fn of_fault(f: Fault) -> Outcome {
 
 fn of_check(a: CheckAnswer) -> Outcome {
     match a {
-        CheckAnswer::Accepted => granted(0, 0),
+        CheckAnswer::Accepted => done(),
         CheckAnswer::Refused(f) => of_fault(f),
     }
 }
 
 fn of_find(a: FindAnswer) -> Outcome {
     match a {
-        FindAnswer::Found(at) => granted(1, at),
+        FindAnswer::Found(at) => one(at),
         FindAnswer::Refused(n) => refused(n, 0),
         FindAnswer::Inconsistent(f) => of_fault(f),
     }
@@ -67,12 +46,7 @@ fn of_entry(a: EntryAnswer) -> Outcome {
             size,
             next,
             name_length,
-        } => Outcome {
-            refusal: 0,
-            place: 0,
-            count: 6,
-            values: [kind, executable, info, size, next, name_length],
-        },
+        } => granted(6, [kind, executable, info, size, next, name_length]),
         EntryAnswer::Refused(n) => refused(n, 0),
         EntryAnswer::Inconsistent(f) => of_fault(f),
     }
@@ -80,7 +54,7 @@ fn of_entry(a: EntryAnswer) -> Outcome {
 
 fn of_length(a: ContentAnswer) -> Outcome {
     match a {
-        ContentAnswer::Length(n) => granted(1, n),
+        ContentAnswer::Length(n) => one(n),
         ContentAnswer::Refused(n) => refused(n, 0),
         ContentAnswer::Inconsistent(f) => of_fault(f),
     }
@@ -91,12 +65,14 @@ fn of_content(part: &[u8]) -> Outcome {
     if 4294967295 < n {
         return refused(1000, 0);
     }
-    granted(1, n as u32)
+    one(n as u32)
 }
 
-// The requests by their kinds in the packed form. No table has the refusal of an unknown kind.
-fn request(kind: u32, first: u32, name: &[u8], image: &[u8]) -> Outcome {
-    match kind {
+// The requests by their numbers in the packed form. No table has the refusal of an unknown one.
+fn request(given: Given, name: &[u8], image: &[u8]) -> Outcome {
+    let first = given.first;
+    let request = given.request;
+    match request {
         17 => of_check(romfs::check(image)),
         18 => of_find(romfs::find(image, first, name)),
         19 => of_entry(romfs::entry(image, first)),
@@ -106,130 +82,45 @@ fn request(kind: u32, first: u32, name: &[u8], image: &[u8]) -> Outcome {
     }
 }
 
-// Whether text is the content, and empty for the other requests.
-fn same_content(kind: u32, image: &[u8], first: u32, text: &[u8]) -> bool {
-    if kind != 21 {
-        return text.len() == 0;
+// The content that is asked for, and nothing for the other requests.
+fn text(given: Given, image: &[u8]) -> &[u8] {
+    if given.request == 21 {
+        return romfs::content(image, given.first);
     }
-    spans::search::same(romfs::content(image, first), text)
-}
-
-// ---- what is expected
-
-fn value(k: u32, count: u32) -> u32 {
-    if k < count {
-        return packed::number();
-    }
-    0
-}
-
-fn expected() -> Outcome {
-    let refusal = packed::number();
-    let place = packed::number();
-    let count = packed::number();
-    let a = value(0, count);
-    let b = value(1, count);
-    let c = value(2, count);
-    let d = value(3, count);
-    let e = value(4, count);
-    let f = value(5, count);
-    Outcome {
-        refusal: refusal,
-        place: place,
-        count: count,
-        values: [a, b, c, d, e, f],
-    }
-}
-
-fn same_values(a: [u32; 6], b: [u32; 6]) -> bool {
-    a[0] == b[0] && a[1] == b[1] && a[2] == b[2] && a[3] == b[3] && a[4] == b[4] && a[5] == b[5]
-}
-
-fn same_outcome(a: Outcome, b: Outcome) -> bool {
-    let v = a.values;
-    let w = b.values;
-    a.refusal == b.refusal && a.place == b.place && a.count == b.count && same_values(v, w)
-}
-
-// ---- lines
-
-fn text(words: &[u8]) {
-    io::write_all(STDOUT_FILENO, words);
-}
-
-fn number(before: &[u8], n: u32) {
-    text(before);
-    io::print_decimal(STDOUT_FILENO, n as u64);
-}
-
-fn shown(before: &[u8], o: Outcome) {
-    let values = o.values;
-    number(before, o.refusal);
-    number(b" at ", o.place);
-    number(b" and ", o.count);
-    number(b" values: ", values[0]);
-    number(b", ", values[1]);
-    number(b", ", values[2]);
-    number(b", ", values[3]);
-    number(b", ", values[4]);
-    number(b", ", values[5]);
-}
-
-fn difference(k: u32, kind: u32, want: Outcome, got: Outcome) {
-    number(b"case ", k);
-    number(b", request ", kind);
-    shown(b": expected refusal ", want);
-    shown(b"; got refusal ", got);
-    text(b"\n");
-}
-
-fn other(k: u32, what: &[u8]) {
-    number(b"case ", k);
-    text(what);
+    &image[0..0]
 }
 
 // ---- cases
 
-// Holds what a request gave against what the input has.
-fn compare(k: u32, kind: u32, first: u32, image: &[u8], buf: &[u8], got: Outcome) -> bool {
-    let want = expected();
-    let mut space = io::buffer();
-    let n = packed::bytes(&mut space);
-    let same = same_content(kind, image, first, &space[0..n]);
-    let hashed = packed::long_number() == packed::hash_both(image, buf);
-    if !same_outcome(want, got) {
-        difference(k, kind, want, got);
-        return false;
-    }
-    if !same {
-        other(k, b": the content differs\n");
-        return false;
-    }
-    if !hashed {
-        other(k, b": the image differs\n");
-    }
-    hashed
+// Whether a case comes out as expected.
+fn compare(k: u32, given: Given, got: Outcome, image: &[u8], buf: &[u8]) -> bool {
+    packed::cases::comes_out(k, given.request, got, text(given, image), image, buf)
 }
 
-// Case number k: whether it comes out as expected. Its second number has no use here.
-fn case(k: u32, name: &mut [u8], buf: &mut [u8], image: &mut [u8]) -> bool {
-    let kind = packed::byte();
-    let first = packed::number();
-    packed::number();
-    let a = packed::bytes(name);
-    let b = packed::bytes(buf);
-    let c = packed::bytes(image);
-    let got = request(kind, first, &name[0..a], &image[0..c]);
-    compare(k, kind, first, &image[0..c], &buf[0..b], got)
+// Case number k, read into what is lent.
+fn case_in(k: u32, name: &mut [u8], buf: &mut [u8], image: &mut [u8]) -> bool {
+    let given = packed::cases::next(name, buf, image);
+    let a = given.name;
+    let b = given.buf;
+    let c = given.image;
+    let got = request(given, &name[0..a], &image[0..c]);
+    compare(k, given, got, &image[0..c], &buf[0..b])
+}
+
+fn case(k: u32) -> bool {
+    let mut name = io::buffer();
+    let mut buf = io::buffer();
+    let mut image = io::large_buffer();
+    case_in(k, &mut name, &mut buf, &mut image)
 }
 
 // So many cases: how many differ.
-fn cases(count: u32, name: &mut [u8], buf: &mut [u8], image: &mut [u8]) -> u32 {
+fn cases(count: u32) -> u32 {
     let mut differ: u32 = 0;
     let mut k: u32 = 0;
     while k < count {
         k += 1;
-        if !case(k, name, buf, image) {
+        if !case(k) {
             differ += 1;
         }
     }
@@ -238,11 +129,5 @@ fn cases(count: u32, name: &mut [u8], buf: &mut [u8], image: &mut [u8]) -> u32 {
 
 fn main() {
     let count = packed::number();
-    let mut name = io::buffer();
-    let mut buf = io::buffer();
-    let mut image = io::large_buffer();
-    let differ = cases(count, &mut name, &mut buf, &mut image);
-    io::print_decimal(STDOUT_FILENO, count as u64);
-    number(b" cases, ", differ);
-    text(b" differ\n");
+    packed::lines::totals(count, b" cases, ", cases(count));
 }

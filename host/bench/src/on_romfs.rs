@@ -2,7 +2,7 @@
 
 use std::hint::black_box;
 
-use reference::make::{flat_rom, tree_rom, Rom};
+use generate::romfs::{flat_rom, tree_rom, Rom};
 use reference::romfs as reference_romfs;
 
 use crate::race::Race;

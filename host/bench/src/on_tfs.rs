@@ -66,23 +66,22 @@ pub fn requests(rounds: usize) {
     table.print("TFS: a volume of 2 MiB");
 }
 
-fn check(rounds: usize, image: &[u8]) -> Vec<f64> {
-    both(
-        rounds,
-        image,
-        |image| proved::tfs::check(image).expect("check"),
-        |image| reference_tfs::check(image).expect("check"),
-    )
+/// Times a request of both programs that is given nothing but an image.
+macro_rules! plain_request {
+    ($request:ident) => {
+        fn $request(rounds: usize, image: &[u8]) -> Vec<f64> {
+            both(
+                rounds,
+                image,
+                |image| proved::tfs::$request(image).expect("granted"),
+                |image| reference_tfs::$request(image).expect("granted"),
+            )
+        }
+    };
 }
 
-fn free_bytes(rounds: usize, image: &[u8]) -> Vec<f64> {
-    both(
-        rounds,
-        image,
-        |image| proved::tfs::free_bytes(image).expect("free bytes"),
-        |image| reference_tfs::free_bytes(image).expect("free bytes"),
-    )
-}
+plain_request!(check);
+plain_request!(free_bytes);
 
 fn list(rounds: usize, image: &[u8]) -> Vec<f64> {
     both(

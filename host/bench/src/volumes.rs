@@ -1,6 +1,7 @@
 //! The volumes that are timed.
 
-use reference::make::{volume, Random, Shape};
+use generate::tfs::{volume, Shape};
+use generate::Random;
 use reference::tfs::{self, BLOCK_SIZE, LARGEST_FILE, MOST_BLOCKS};
 
 /// A volume and the handle of a file of the largest size in it, if there is one.

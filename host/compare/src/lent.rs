@@ -1,4 +1,4 @@
-use reference::make::Random;
+use generate::Random;
 
 const MARGIN: usize = 64;
 
@@ -41,4 +41,15 @@ impl Lent {
         let equal = pairs.take_while(|(one, two)| one == two).count();
         Some(equal as isize - self.start as isize)
     }
+}
+
+/// What a request is lent.
+#[derive(Clone, Debug)]
+pub struct Lents {
+    /// The image.
+    pub image: Lent,
+    /// The name.
+    pub name: Lent,
+    /// The buffer.
+    pub buffer: Lent,
 }

@@ -3,17 +3,29 @@
 //! [`run()`] draws images and sequences of requests from a seed. Each request runs on both sides,
 //! each with its own copy of the image, the name and the buffer; then the answers, the copies and
 //! the bytes around them must be the same.
+//!
+//! A module uses only modules of the layers below its own:
+//!
+//! ```text
+//! options                      the words of the command line
+//! run                          image after image, until a limit or a difference
+//! volumes         roms         the sequence of requests on one image
+//! drawn_volumes   drawn_roms   images and arguments by chance
+//! comparison                   a request on both sides, counted
+//! pair   tally   sides         two programs with copies of an image; answers counted; the programs
+//! answer   lent                an answer in the form of C; bytes lent, with noise around them
+//! ```
 
 #![forbid(unsafe_code)]
 #![warn(missing_docs)]
 
 mod answer;
-mod drawn;
+mod comparison;
+mod drawn_roms;
+mod drawn_volumes;
 mod lent;
 pub mod options;
 mod pair;
-mod rom_forest;
-mod rom_grid;
 mod roms;
 mod run;
 pub mod sides;
@@ -21,7 +33,7 @@ mod tally;
 mod volumes;
 
 pub use answer::Answer;
-pub use lent::Lent;
+pub use lent::{Lent, Lents};
 pub use pair::{Difference, Pair, Side};
 pub use run::{run, Found, Limits};
 pub use tally::Tally;

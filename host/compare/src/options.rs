@@ -2,7 +2,7 @@
 
 use std::time::{Duration, Instant};
 
-use crate::Limits;
+use crate::run::Limits;
 
 /// How the program is called.
 pub const USAGE: &str = "\

@@ -1,13 +1,13 @@
 use std::fmt;
 
-use reference::cases::{Arguments, Kind};
-use reference::make::Random;
+use generate::Random;
+use reference::request::{Arguments, Request};
 
-use crate::sides::Lents;
-use crate::{Answer, Lent};
+use crate::answer::Answer;
+use crate::lent::{Lent, Lents};
 
 /// A program that answers requests.
-pub type Side = fn(Kind, &Arguments, &mut Lents) -> Answer;
+pub type Side = fn(Request, &Arguments, &mut Lents) -> Answer;
 
 /// Two programs, each with its own copy of one image.
 #[derive(Clone)]
@@ -37,7 +37,7 @@ impl Pair {
     pub fn request(
         &mut self,
         random: &mut Random,
-        kind: Kind,
+        request: Request,
         arguments: &Arguments,
     ) -> Result<Answer, Box<Difference>> {
         let name = Lent::new(random, &arguments.name);
@@ -46,7 +46,7 @@ impl Pair {
             let lents = &mut self.lents[side];
             lents.name = name.clone();
             lents.buffer = buffer.clone();
-            self.sides[side](kind, arguments, lents)
+            self.sides[side](request, arguments, lents)
         });
         let [ours, theirs] = &self.lents;
         let at = [
@@ -58,7 +58,7 @@ impl Pair {
             return Ok(answers[0]);
         }
         Err(Box::new(Difference {
-            kind,
+            request,
             arguments: arguments.clone(),
             image_length: self.image().len(),
             answers,
@@ -71,7 +71,7 @@ impl Pair {
 #[derive(Clone, Debug)]
 pub struct Difference {
     /// The request.
-    pub kind: Kind,
+    pub request: Request,
     /// Its arguments.
     pub arguments: Arguments,
     /// The length of the image.
@@ -93,7 +93,7 @@ impl fmt::Display for Difference {
         writeln!(
             f,
             "{:?} on an image of {} bytes",
-            self.kind, self.image_length
+            self.request, self.image_length
         )?;
         writeln!(
             f,

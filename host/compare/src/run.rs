@@ -1,9 +1,13 @@
+//! Images one after another, until a limit is reached or the two programs differ.
+
 use std::time::Instant;
 
-use reference::cases::{Arguments, Kind};
-use reference::make::Random;
+use generate::Random;
 
-use crate::{roms, volumes, Answer, Difference, Pair, Side, Tally};
+use crate::comparison::{Comparison, Stop};
+use crate::pair::{Difference, Side};
+use crate::tally::Tally;
+use crate::{roms, volumes};
 
 /// What to draw, and when to stop.
 #[derive(Clone, Copy, Debug)]
@@ -37,18 +41,13 @@ pub struct Found {
 
 /// Compares two programs until a limit is reached or they differ.
 pub fn run(limits: Limits, sides: [Side; 2]) -> (Tally, Option<Found>) {
-    let mut comparison = Comparison {
-        random: Random::new(limits.seed),
-        sides,
-        tally: Tally::default(),
-        most: limits.requests,
-    };
+    let mut comparison = Comparison::new(sides, limits.requests);
     for image in limits.first..limits.first.saturating_add(limits.images) {
         if limits.until.is_some_and(|until| Instant::now() >= until) {
             break;
         }
         let before = comparison.tally.requests();
-        match comparison.on_image(&limits, image) {
+        match on_image(&mut comparison, &limits, image) {
             Ok(()) => {}
             Err(Stop::Enough) => break,
             Err(Stop::Differs(difference)) => {
@@ -64,53 +63,13 @@ pub fn run(limits: Limits, sides: [Side; 2]) -> (Tally, Option<Found>) {
     (comparison.tally, None)
 }
 
-/// Why a sequence of requests ends before its time.
-pub(crate) enum Stop {
-    Enough,
-    Differs(Box<Difference>),
-}
-
-/// What all sequences share.
-pub(crate) struct Comparison {
-    pub(crate) random: Random,
-    sides: [Side; 2],
-    tally: Tally,
-    most: u64,
-}
-
-impl Comparison {
-    /// Makes the sequence of requests on the image of a number.
-    fn on_image(&mut self, limits: &Limits, image: u64) -> Result<(), Stop> {
-        self.random = Random::new(limits.seed.wrapping_mul(0x9E37_79B9_7F4A_7C15) ^ image);
-        // A volume has about ten times as many requests as a romfs image.
-        if limits.tfs && (!limits.romfs || image.is_multiple_of(10)) {
-            volumes::on_next(self)
-        } else {
-            roms::on_next(self)
-        }
-    }
-
-    /// Lends an image to both sides.
-    pub(crate) fn pair(&mut self, image: &[u8]) -> Pair {
-        Pair::new(&mut self.random, self.sides, image)
-    }
-
-    /// Makes a request and counts its answer.
-    pub(crate) fn ask(
-        &mut self,
-        pair: &mut Pair,
-        kind: Kind,
-        arguments: &Arguments,
-    ) -> Result<Answer, Stop> {
-        if self.tally.requests() >= self.most {
-            return Err(Stop::Enough);
-        }
-        match pair.request(&mut self.random, kind, arguments) {
-            Ok(answer) => {
-                self.tally.count(kind, &answer);
-                Ok(answer)
-            }
-            Err(difference) => Err(Stop::Differs(difference)),
-        }
+/// Makes the sequence of requests on the image of a number.
+fn on_image(comparison: &mut Comparison, limits: &Limits, image: u64) -> Result<(), Stop> {
+    comparison.random = Random::new(limits.seed.wrapping_mul(0x9E37_79B9_7F4A_7C15) ^ image);
+    // A volume has about ten times as many requests as a romfs image.
+    if limits.tfs && (!limits.romfs || image.is_multiple_of(10)) {
+        volumes::on_next(comparison)
+    } else {
+        roms::on_next(comparison)
     }
 }

@@ -1,42 +1,32 @@
-//! The two programs behind one form of request: a kind and its arguments on lent bytes.
+//! The two programs behind one form of request: a request and its arguments on lent bytes.
 
 use proved::c;
-use reference::cases::{self, Arguments, Granted, Kind};
+use reference::request::{self, Arguments, Granted, Request};
 use reference::{romfs, Refusal};
 
-use crate::{Answer, Lent};
-
-/// What a request is lent.
-#[derive(Clone, Debug)]
-pub struct Lents {
-    /// The image.
-    pub image: Lent,
-    /// The name.
-    pub name: Lent,
-    /// The buffer.
-    pub buffer: Lent,
-}
+use crate::answer::Answer;
+use crate::lent::Lents;
 
 /// Answers with the proved library.
-pub fn proved(kind: Kind, arguments: &Arguments, lents: &mut Lents) -> Answer {
+pub fn proved(request: Request, arguments: &Arguments, lents: &mut Lents) -> Answer {
     let (first, second) = (arguments.first, arguments.second);
     let image = lents.image.bytes_mut();
     let name = lents.name.bytes();
     let buffer = lents.buffer.bytes_mut();
-    match kind {
-        Kind::TfsCheck => value_answer(c::tfs::check(image)),
-        Kind::TfsFormat => value_answer(c::tfs::format(image, name)),
-        Kind::TfsOpen => value_answer(c::tfs::open(image, name)),
-        Kind::TfsCreate => value_answer(c::tfs::create(image, name, first)),
-        Kind::TfsRemove => value_answer(c::tfs::remove(image, name)),
-        Kind::TfsRead => value_answer(c::tfs::read(image, first, second, buffer)),
-        Kind::TfsWrite => value_answer(c::tfs::write(image, first, second, buffer)),
-        Kind::TfsList => slot_answer(c::tfs::list(image, first)),
-        Kind::TfsFree => value_answer(c::tfs::free_bytes(image)),
-        Kind::RomCheck => value_answer(c::romfs::check(image)),
-        Kind::RomFind => value_answer(c::romfs::find(image, first, name)),
-        Kind::RomEntry => entry_answer(c::romfs::entry(image, first)),
-        Kind::RomLength | Kind::RomContent => part_answer(c::romfs::content(image, first)),
+    match request {
+        Request::TfsCheck => value_answer(c::tfs::check(image)),
+        Request::TfsFormat => value_answer(c::tfs::format(image, name)),
+        Request::TfsOpen => value_answer(c::tfs::open(image, name)),
+        Request::TfsCreate => value_answer(c::tfs::create(image, name, first)),
+        Request::TfsRemove => value_answer(c::tfs::remove(image, name)),
+        Request::TfsRead => value_answer(c::tfs::read(image, first, second, buffer)),
+        Request::TfsWrite => value_answer(c::tfs::write(image, first, second, buffer)),
+        Request::TfsList => slot_answer(c::tfs::list(image, first)),
+        Request::TfsFree => value_answer(c::tfs::free_bytes(image)),
+        Request::RomCheck => value_answer(c::romfs::check(image)),
+        Request::RomFind => value_answer(c::romfs::find(image, first, name)),
+        Request::RomEntry => entry_answer(c::romfs::entry(image, first)),
+        Request::RomLength | Request::RomContent => part_answer(c::romfs::content(image, first)),
     }
 }
 
@@ -44,7 +34,7 @@ fn value_answer(answer: c::Answer) -> Answer {
     Answer::of(&[answer.refusal, answer.place, answer.value])
 }
 
-fn slot_answer(slot: c::tfs::Listed) -> Answer {
+fn slot_answer(slot: c::tfs::Slot) -> Answer {
     let words = [
         slot.refusal,
         slot.place,
@@ -56,11 +46,11 @@ fn slot_answer(slot: c::tfs::Listed) -> Answer {
     Answer::of(&words).named(&slot.name)
 }
 
-fn entry_answer(entry: c::romfs::Described) -> Answer {
+fn entry_answer(entry: c::romfs::Header) -> Answer {
     Answer::of(&[
         entry.refusal,
         entry.place,
-        entry.kind,
+        entry.file_type,
         entry.executable,
         entry.info,
         entry.size,
@@ -74,11 +64,11 @@ fn part_answer(part: c::romfs::Part) -> Answer {
 }
 
 /// Answers with the reference, in the form that the C interface owes.
-pub fn reference(kind: Kind, arguments: &Arguments, lents: &mut Lents) -> Answer {
+pub fn reference(request: Request, arguments: &Arguments, lents: &mut Lents) -> Answer {
     let image = lents.image.bytes_mut();
-    let answer = match kind {
-        Kind::RomLength | Kind::RomContent => content(image, arguments.first),
-        _ => cases::run(kind, arguments, image, lents.buffer.bytes_mut()).map(granted),
+    let answer = match request {
+        Request::RomLength | Request::RomContent => content(image, arguments.first),
+        _ => request::run(request, arguments, image, lents.buffer.bytes_mut()).map(granted),
     };
     answer.unwrap_or_else(|Refusal { number, place }| Answer::of(&[number, place]))
 }

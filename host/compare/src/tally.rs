@@ -1,26 +1,26 @@
 use std::fmt;
 
-use reference::cases::Kind;
+use reference::request::Request;
 
-use crate::Answer;
+use crate::answer::Answer;
 
-const KINDS: [(Kind, &str); 13] = [
-    (Kind::TfsFormat, "format"),
-    (Kind::TfsCheck, "check"),
-    (Kind::TfsOpen, "open"),
-    (Kind::TfsCreate, "create"),
-    (Kind::TfsRemove, "remove"),
-    (Kind::TfsRead, "read"),
-    (Kind::TfsWrite, "write"),
-    (Kind::TfsList, "list"),
-    (Kind::TfsFree, "free bytes"),
-    (Kind::RomCheck, "romfs check"),
-    (Kind::RomFind, "find"),
-    (Kind::RomEntry, "entry"),
-    (Kind::RomContent, "content"),
+const REQUESTS: [(Request, &str); 13] = [
+    (Request::TfsFormat, "format"),
+    (Request::TfsCheck, "check"),
+    (Request::TfsOpen, "open"),
+    (Request::TfsCreate, "create"),
+    (Request::TfsRemove, "remove"),
+    (Request::TfsRead, "read"),
+    (Request::TfsWrite, "write"),
+    (Request::TfsList, "list"),
+    (Request::TfsFree, "free bytes"),
+    (Request::RomCheck, "romfs check"),
+    (Request::RomFind, "find"),
+    (Request::RomEntry, "entry"),
+    (Request::RomContent, "content"),
 ];
 
-/// How often each kind of request was granted and refused, and each refusal given.
+/// How often each request was granted and refused, and each refusal given.
 #[derive(Clone, Debug, Default, PartialEq, Eq)]
 pub struct Tally {
     granted: [u64; 32],
@@ -30,11 +30,11 @@ pub struct Tally {
 
 impl Tally {
     /// Counts an answer.
-    pub fn count(&mut self, kind: Kind, answer: &Answer) {
+    pub fn count(&mut self, request: Request, answer: &Answer) {
         match answer.refusal() {
-            0 => self.granted[kind as usize] += 1,
+            0 => self.granted[request as usize] += 1,
             number => {
-                self.refused[kind as usize] += 1;
+                self.refused[request as usize] += 1;
                 self.numbers[number as usize % 32] += 1;
             }
         }
@@ -45,9 +45,9 @@ impl Tally {
         self.granted.iter().chain(&self.refused).sum()
     }
 
-    /// Gives how often a kind of request was granted.
-    pub fn granted(&self, kind: Kind) -> u64 {
-        self.granted[kind as usize]
+    /// Gives how often a request was granted.
+    pub fn granted(&self, request: Request) -> u64 {
+        self.granted[request as usize]
     }
 
     /// Gives how often a refusal was given.
@@ -64,8 +64,8 @@ impl fmt::Display for Tally {
             "{} requests, {granted} granted; granted+refused:",
             self.requests()
         )?;
-        for (kind, name) in KINDS {
-            let index = kind as usize;
+        for (request, name) in REQUESTS {
+            let index = request as usize;
             write!(f, " {name} {}+{}", self.granted[index], self.refused[index])?;
         }
         write!(f, "; refusals:")?;

@@ -1,38 +1,40 @@
 //! Sequences of requests on TFS volumes.
 
-use reference::cases::{tfs_arguments, Arguments, Kind};
-use reference::make::{damage_volume, damage_volume_twice, scramble_volume, MadeFile, Volume};
+use generate::cases::tfs_arguments;
+use generate::tfs::{damage_volume, damage_volume_twice, scramble_volume, File, Volume};
+use reference::request::{Arguments, Request};
 use reference::tfs::{BLOCK_SIZE, SLOTS};
 
-use crate::drawn::{any_image, twist};
-use crate::run::{Comparison, Stop};
-use crate::{Answer, Pair};
+use crate::answer::Answer;
+use crate::comparison::{Comparison, Stop};
+use crate::drawn_volumes::{any_image, twist};
+use crate::pair::Pair;
 
-const KINDS: [Kind; 24] = [
-    Kind::TfsCreate,
-    Kind::TfsCreate,
-    Kind::TfsCreate,
-    Kind::TfsCreate,
-    Kind::TfsCreate,
-    Kind::TfsRemove,
-    Kind::TfsRemove,
-    Kind::TfsRemove,
-    Kind::TfsRead,
-    Kind::TfsRead,
-    Kind::TfsRead,
-    Kind::TfsRead,
-    Kind::TfsWrite,
-    Kind::TfsWrite,
-    Kind::TfsWrite,
-    Kind::TfsWrite,
-    Kind::TfsList,
-    Kind::TfsList,
-    Kind::TfsOpen,
-    Kind::TfsOpen,
-    Kind::TfsFree,
-    Kind::TfsFree,
-    Kind::TfsCheck,
-    Kind::TfsFormat,
+const REQUESTS: [Request; 24] = [
+    Request::TfsCreate,
+    Request::TfsCreate,
+    Request::TfsCreate,
+    Request::TfsCreate,
+    Request::TfsCreate,
+    Request::TfsRemove,
+    Request::TfsRemove,
+    Request::TfsRemove,
+    Request::TfsRead,
+    Request::TfsRead,
+    Request::TfsRead,
+    Request::TfsRead,
+    Request::TfsWrite,
+    Request::TfsWrite,
+    Request::TfsWrite,
+    Request::TfsWrite,
+    Request::TfsList,
+    Request::TfsList,
+    Request::TfsOpen,
+    Request::TfsOpen,
+    Request::TfsFree,
+    Request::TfsFree,
+    Request::TfsCheck,
+    Request::TfsFormat,
 ];
 
 /// Draws an image and makes a sequence of requests on it.
@@ -61,7 +63,7 @@ struct History<'a> {
     /// What stands in the volume, as far as requests were granted; its image is not kept up.
     made: Volume,
     /// All files that there ever were.
-    past: Vec<MadeFile>,
+    past: Vec<File>,
 }
 
 impl<'a> History<'a> {
@@ -78,10 +80,10 @@ impl<'a> History<'a> {
 
     /// Makes one request and takes note of what it has changed.
     fn step(&mut self) -> Result<(), Stop> {
-        let (kind, arguments) = self.request();
-        let answer = self.comparison.ask(&mut self.pair, kind, &arguments)?;
+        let (request, arguments) = self.request();
+        let answer = self.comparison.ask(&mut self.pair, request, &arguments)?;
         match answer.refusal() {
-            0 => self.note(kind, &arguments, &answer),
+            0 => self.note(request, &arguments, &answer),
             1..=7 if self.comparison.random.one_in(4) => self.format()?,
             _ => {}
         }
@@ -91,10 +93,10 @@ impl<'a> History<'a> {
     /// Makes a volume of noise.
     fn format(&mut self) -> Result<(), Stop> {
         let arguments = Arguments::default();
-        let kind = Kind::TfsFormat;
-        let answer = self.comparison.ask(&mut self.pair, kind, &arguments)?;
+        let request = Request::TfsFormat;
+        let answer = self.comparison.ask(&mut self.pair, request, &arguments)?;
         if answer.refusal() == 0 {
-            self.note(kind, &arguments, &answer);
+            self.note(request, &arguments, &answer);
         }
         Ok(())
     }
@@ -119,31 +121,31 @@ impl<'a> History<'a> {
         };
         let mut pair = self.comparison.pair(&damaged);
         for _ in 0..self.comparison.random.between(1, 4) {
-            let (kind, arguments) = self.request();
-            self.comparison.ask(&mut pair, kind, &arguments)?;
+            let (request, arguments) = self.request();
+            self.comparison.ask(&mut pair, request, &arguments)?;
         }
         Ok(())
     }
 
-    fn request(&mut self) -> (Kind, Arguments) {
+    fn request(&mut self) -> (Request, Arguments) {
         let random = &mut self.comparison.random;
-        let mut kind = random.pick(&KINDS);
-        if kind == Kind::TfsFormat && !random.one_in(3) {
-            kind = Kind::TfsCheck;
+        let mut request = random.pick(&REQUESTS);
+        if request == Request::TfsFormat && !random.one_in(3) {
+            request = Request::TfsCheck;
         }
-        let mut arguments = tfs_arguments(random, &self.made, kind);
-        twist(random, &self.past, kind, &mut arguments);
-        (kind, arguments)
+        let mut arguments = tfs_arguments(random, &self.made, request);
+        twist(random, &self.past, request, &mut arguments);
+        (request, arguments)
     }
 
-    fn note(&mut self, kind: Kind, arguments: &Arguments, answer: &Answer) {
+    fn note(&mut self, request: Request, arguments: &Arguments, answer: &Answer) {
         let files = &mut self.made.files;
-        match kind {
-            Kind::TfsFormat => files.clear(),
-            Kind::TfsRemove => files.retain(|file| file.name != arguments.name),
-            Kind::TfsCreate => {
+        match request {
+            Request::TfsFormat => files.clear(),
+            Request::TfsRemove => files.retain(|file| file.name != arguments.name),
+            Request::TfsCreate => {
                 let used = |slot: &usize| files.iter().any(|file| file.slot == *slot);
-                let file = MadeFile {
+                let file = File {
                     slot: (0..SLOTS).find(|slot| !used(slot)).unwrap_or(SLOTS),
                     name: arguments.name.clone(),
                     inode: answer.value(),

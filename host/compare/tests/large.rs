@@ -2,8 +2,9 @@
 
 use compare::sides::{proved, reference};
 use compare::{Answer, Pair};
-use reference::cases::{Arguments, Kind};
-use reference::make::{tree_rom, Random};
+use generate::romfs::tree_rom;
+use generate::Random;
+use reference::request::{Arguments, Request};
 
 const MOST: usize = 2_097_152;
 const LENGTHS: [usize; 6] = [MOST, MOST + 1, MOST + 511, MOST + 512, 2_097_664, 3_000_000];
@@ -22,7 +23,10 @@ impl Large {
         let pair = Pair::new(&mut random, [proved, reference], &image);
         let past = image[MOST.min(length)..].to_vec();
         let mut large = Self { random, pair, past };
-        assert_eq!(large.ask(Kind::TfsFormat, 0, b"LARGE"), Answer::default());
+        assert_eq!(
+            large.ask(Request::TfsFormat, 0, b"LARGE"),
+            Answer::default()
+        );
         large
     }
 
@@ -32,19 +36,19 @@ impl Large {
         self
     }
 
-    fn ask(&mut self, kind: Kind, first: u32, name: &[u8]) -> Answer {
+    fn ask(&mut self, request: Request, first: u32, name: &[u8]) -> Answer {
         let name = name.to_vec();
         let arguments = Arguments {
             first,
             name,
             ..Arguments::default()
         };
-        self.transfer(kind, &arguments)
+        self.transfer(request, &arguments)
     }
 
     /// Makes a request on both programs; the bytes past block 4095 stay.
-    fn transfer(&mut self, kind: Kind, arguments: &Arguments) -> Answer {
-        let answer = self.pair.request(&mut self.random, kind, arguments);
+    fn transfer(&mut self, request: Request, arguments: &Arguments) -> Answer {
+        let answer = self.pair.request(&mut self.random, request, arguments);
         let answer = answer.unwrap_or_else(|difference| panic!("{difference}"));
         let image = self.pair.image();
         assert!(image[MOST.min(image.len())..] == self.past[..]);
@@ -52,7 +56,7 @@ impl Large {
     }
 
     fn free(&mut self) -> u32 {
-        self.ask(Kind::TfsFree, 0, b"").value()
+        self.ask(Request::TfsFree, 0, b"").value()
     }
 }
 
@@ -90,20 +94,20 @@ fn with_last_blocks(length: usize) -> Large {
 fn block_4095_is_used() {
     for length in LENGTHS {
         let mut large = with_last_blocks(length);
-        assert_eq!(large.ask(Kind::TfsCheck, 0, b""), Answer::default());
+        assert_eq!(large.ask(Request::TfsCheck, 0, b""), Answer::default());
         assert_eq!(large.free(), 2_095_616 - 1024);
-        assert_eq!(large.ask(Kind::TfsOpen, 0, b"LAST").value(), 4094);
+        assert_eq!(large.ask(Request::TfsOpen, 0, b"LAST").value(), 4094);
         let mut arguments = Arguments {
             first: 4094,
             second: 2,
             buffer: vec![0x55; 600],
             ..Arguments::default()
         };
-        assert_eq!(large.transfer(Kind::TfsWrite, &arguments).value(), 510);
+        assert_eq!(large.transfer(Request::TfsWrite, &arguments).value(), 510);
         assert!(large.pair.image()[MOST - 510..MOST] == [0x55; 510]);
         arguments.buffer = vec![0xAA; 600];
-        assert_eq!(large.transfer(Kind::TfsRead, &arguments).value(), 510);
-        assert_eq!(large.ask(Kind::TfsRemove, 0, b"LAST"), Answer::default());
+        assert_eq!(large.transfer(Request::TfsRead, &arguments).value(), 510);
+        assert_eq!(large.ask(Request::TfsRemove, 0, b"LAST"), Answer::default());
         assert_eq!(large.pair.image()[512 + 508], 0);
         assert_eq!(large.free(), 2_095_616);
     }
@@ -126,7 +130,7 @@ fn faults_at_block_4095_and_past_it() {
             let mut image = large.pair.image().to_vec();
             image[at] = byte;
             let mut large = large.holding(&image);
-            let refused = large.ask(Kind::TfsCheck, 0, b"");
+            let refused = large.ask(Request::TfsCheck, 0, b"");
             assert_eq!(refused, Answer::of(&[number, place]), "{length} {at}");
         }
     }
@@ -136,12 +140,12 @@ fn faults_at_block_4095_and_past_it() {
 fn the_largest_files_fill_3203_blocks() {
     let mut large = Large::formatted(512 * 3203);
     for number in 0..25 {
-        let made = large.ask(Kind::TfsCreate, 65_024, &[b'A' + number]);
+        let made = large.ask(Request::TfsCreate, 65_024, &[b'A' + number]);
         assert_eq!(made, Answer::of(&[0, 0, 3 + 128 * u32::from(number)]));
     }
     assert_eq!(large.free(), 0);
-    assert_eq!(large.ask(Kind::TfsCreate, 0, b"more").refusal(), 11);
-    assert_eq!(large.ask(Kind::TfsRemove, 0, b"C"), Answer::default());
+    assert_eq!(large.ask(Request::TfsCreate, 0, b"more").refusal(), 11);
+    assert_eq!(large.ask(Request::TfsRemove, 0, b"C"), Answer::default());
     assert_eq!(large.free(), 65_536);
 }
 

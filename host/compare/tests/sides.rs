@@ -1,8 +1,8 @@
 //! The two programs agree, and the comparison finds programs that do not.
 
-use compare::sides::{proved, reference, Lents};
-use compare::{options, run, Answer, Found, Limits, Side, Tally};
-use reference::cases::{Arguments, Kind};
+use compare::sides::{proved, reference};
+use compare::{options, run, Answer, Found, Lents, Limits, Side, Tally};
+use reference::request::{Arguments, Request};
 
 fn compared(words: &str, side: Side) -> (Tally, Option<Found>) {
     let words = words.split(' ').map(str::to_owned);
@@ -18,22 +18,22 @@ fn both_agree_and_every_answer_is_met() {
     for number in (1..=15).chain(21..=31) {
         assert!(tally.seen(number) > 10, "refusal {number}");
     }
-    for kind in [
-        Kind::TfsFormat,
-        Kind::TfsCheck,
-        Kind::TfsOpen,
-        Kind::TfsCreate,
-        Kind::TfsRemove,
-        Kind::TfsRead,
-        Kind::TfsWrite,
-        Kind::TfsList,
-        Kind::TfsFree,
-        Kind::RomCheck,
-        Kind::RomFind,
-        Kind::RomEntry,
-        Kind::RomContent,
+    for request in [
+        Request::TfsFormat,
+        Request::TfsCheck,
+        Request::TfsOpen,
+        Request::TfsCreate,
+        Request::TfsRemove,
+        Request::TfsRead,
+        Request::TfsWrite,
+        Request::TfsList,
+        Request::TfsFree,
+        Request::RomCheck,
+        Request::RomFind,
+        Request::RomEntry,
+        Request::RomContent,
     ] {
-        assert!(tally.granted(kind) > 100, "{kind:?}");
+        assert!(tally.granted(request) > 100, "{request:?}");
     }
 }
 
@@ -69,24 +69,24 @@ fn found(side: Side) -> Found {
 
 #[test]
 fn a_read_that_changes_the_rest_of_the_buffer() {
-    let found = found(|kind, arguments, lents| {
-        let answer = reference(kind, arguments, lents);
+    let found = found(|request, arguments, lents| {
+        let answer = reference(request, arguments, lents);
         let rest = lents.buffer.bytes_mut().get_mut(answer.value() as usize);
-        if let (Kind::TfsRead, 0, Some(byte)) = (kind, answer.refusal(), rest) {
+        if let (Request::TfsRead, 0, Some(byte)) = (request, answer.refusal(), rest) {
             *byte ^= 1;
         }
         answer
     });
-    assert_eq!(found.difference.kind, Kind::TfsRead);
+    assert_eq!(found.difference.request, Request::TfsRead);
     assert!(found.difference.at[2].is_some());
 }
 
 #[test]
 fn a_create_that_zeros_only_part_of_its_last_block() {
-    let found = found(|kind, arguments, lents| {
+    let found = found(|request, arguments, lents| {
         let before = lents.image.bytes().to_vec();
-        let answer = reference(kind, arguments, lents);
-        if kind == Kind::TfsCreate && answer.refusal() == 0 {
+        let answer = reference(request, arguments, lents);
+        if request == Request::TfsCreate && answer.refusal() == 0 {
             keep_the_end(
                 &before,
                 lents,
@@ -96,7 +96,7 @@ fn a_create_that_zeros_only_part_of_its_last_block() {
         }
         answer
     });
-    assert_eq!(found.difference.kind, Kind::TfsCreate);
+    assert_eq!(found.difference.request, Request::TfsCreate);
     assert!(found.difference.at[0].is_some());
 }
 
@@ -113,9 +113,9 @@ fn keep_the_end(before: &[u8], lents: &mut Lents, inode: usize, size: usize) {
 
 #[test]
 fn a_refused_write_that_writes() {
-    let found = found(|kind, arguments, lents| {
-        let answer = reference(kind, arguments, lents);
-        if (kind, answer.refusal()) == (Kind::TfsWrite, 15) {
+    let found = found(|request, arguments, lents| {
+        let answer = reference(request, arguments, lents);
+        if (request, answer.refusal()) == (Request::TfsWrite, 15) {
             lents.image.bytes_mut()[1535] ^= 1;
         }
         answer
@@ -137,32 +137,36 @@ fn wrong_places_and_values() {
             number
         );
     }
-    let list = found(|kind, arguments, lents| {
-        let answer = reference(kind, arguments, lents);
-        let free = kind == Kind::TfsList && answer == Answer::default();
+    let list = found(|request, arguments, lents| {
+        let answer = reference(request, arguments, lents);
+        let free = request == Request::TfsList && answer == Answer::default();
         if free {
             changed(answer, 5)
         } else {
             answer
         }
     });
-    assert_eq!(list.difference.kind, Kind::TfsList);
-    let content = found(|kind, arguments: &Arguments, lents| {
-        let answer = reference(kind, arguments, lents);
-        let empty = kind == Kind::RomContent && answer.refusal() == 0 && answer.words[3] == 0;
+    assert_eq!(list.difference.request, Request::TfsList);
+    let content = found(|request, arguments: &Arguments, lents| {
+        let answer = reference(request, arguments, lents);
+        let empty = request == Request::RomContent && answer.refusal() == 0 && answer.words[3] == 0;
         if empty {
             changed(answer, 2)
         } else {
             answer
         }
     });
-    assert_eq!(content.difference.kind, Kind::RomContent);
+    assert_eq!(content.difference.request, Request::RomContent);
 }
 
 /// A program that gives one refusal a wrong place.
 fn wrong_place(number: u32) -> Side {
-    fn side<const NUMBER: u32>(kind: Kind, arguments: &Arguments, lents: &mut Lents) -> Answer {
-        let answer = reference(kind, arguments, lents);
+    fn side<const NUMBER: u32>(
+        request: Request,
+        arguments: &Arguments,
+        lents: &mut Lents,
+    ) -> Answer {
+        let answer = reference(request, arguments, lents);
         let wrong = answer.refusal() == NUMBER;
         if wrong {
             changed(answer, 1)

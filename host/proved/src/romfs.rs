@@ -7,7 +7,7 @@ use crate::{told, Refusal};
 #[derive(Clone, Copy, Debug, PartialEq, Eq)]
 pub struct Entry {
     /// The type, 0 to 7.
-    pub kind: u32,
+    pub file_type: u32,
     /// Whether it is executable.
     pub executable: bool,
     /// The word spec.info.
@@ -34,7 +34,7 @@ pub fn find(image: &[u8], directory: u32, name: &[u8]) -> Result<u32, Refusal> {
 pub fn entry(image: &[u8], at: u32) -> Result<Entry, Refusal> {
     let e = c::entry(image, at);
     let entry = Entry {
-        kind: e.kind,
+        file_type: e.file_type,
         executable: e.executable != 0,
         info: e.info,
         size: e.size,

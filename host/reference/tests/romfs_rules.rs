@@ -1,6 +1,6 @@
 //! The numbers and the edges that the rules name, for romfs.
 
-use reference::romfs::{check, content, content_length, entry, find, Entry, Kind};
+use reference::romfs::{check, content, content_length, entry, find, Entry, FileType};
 use reference::Refusal;
 
 fn at<T>(number: u32, place: u32) -> Result<T, Refusal> {
@@ -66,9 +66,9 @@ fn the_smallest_file() {
     assert_eq!(check(&image), Ok(()));
     assert_eq!(find(&image, 0, b"a"), Ok(32));
     let expected = Entry {
-        kind: Kind::RegularFile,
+        file_type: FileType::RegularFile,
         executable: false,
-        spec_info: 0,
+        info: 0,
         size: 0,
         next: 0,
         name_length: 1,
@@ -131,15 +131,15 @@ fn rule_26_in_its_parts() {
         assert_eq!(one(2, 0, size, b"a"), at(26, 32));
     }
     assert_eq!(one(2, 0, 0, b""), at(26, 32));
-    for kind in [2, 3, 6, 7] {
-        assert_eq!(one(kind, 0, 0, b"a"), Ok(()));
-        assert_eq!(one(kind | 8, 16, 0, b"a"), at(26, 32));
+    for file_type in [2, 3, 6, 7] {
+        assert_eq!(one(file_type, 0, 0, b"a"), Ok(()));
+        assert_eq!(one(file_type | 8, 16, 0, b"a"), at(26, 32));
     }
-    for kind in [0, 1, 4, 5, 6, 7] {
-        assert_eq!(one(kind, 0, 1, b"a"), at(26, 32));
+    for file_type in [0, 1, 4, 5, 6, 7] {
+        assert_eq!(one(file_type, 0, 1, b"a"), at(26, 32));
     }
-    for kind in [4, 5] {
-        assert_eq!(one(kind, 0xFFFF_FFFF, 0, b"a"), Ok(()));
+    for file_type in [4, 5] {
+        assert_eq!(one(file_type, 0xFFFF_FFFF, 0, b"a"), Ok(()));
     }
     let mut endless = image(64, &[(32, 2, 0, 0, b"a")]);
     endless[48..].fill(b'a');
@@ -331,8 +331,8 @@ fn content_in_a_tree() {
 fn an_entry_in_a_tree() {
     let seen = entry(&tree(), 64).unwrap();
     assert_eq!(
-        (seen.kind, seen.executable, seen.spec_info),
-        (Kind::Directory, true, 32)
+        (seen.file_type, seen.executable, seen.info),
+        (FileType::Directory, true, 32)
     );
     assert_eq!((seen.size, seen.next, seen.name_length), (0, 96, 2));
 }

@@ -8,7 +8,7 @@ use crate::image::Image;
 use crate::words;
 use proved::{romfs, Refusal};
 use std::path::Path;
-use walk::{Header, Kind, Walk};
+use walk::{FileType, Header, Walk};
 
 pub use extract::extract;
 
@@ -39,7 +39,7 @@ pub fn list(path: &Path) -> Outcome {
             "{:>8} {} {:<9} {:>8} {:indent$}{}{leads}\n",
             header.at,
             if header.executable { 'x' } else { '-' },
-            header.kind.word(),
+            header.file_type.word(),
             header.size,
             "",
             words::name(header.name),
@@ -51,11 +51,11 @@ pub fn list(path: &Path) -> Outcome {
 
 /// What stands after a name in the list.
 fn leads_to(image: &[u8], header: &Header<'_>) -> Option<String> {
-    Some(match header.kind {
-        Kind::HardLink => format!(" -> header {}", header.info),
-        Kind::Directory if header.is_dot() => format!(" -> header {}", header.info),
-        Kind::SymbolicLink => format!(" -> {}", words::name(header.content(image)?)),
-        Kind::BlockDevice | Kind::CharDevice => {
+    Some(match header.file_type {
+        FileType::HardLink => format!(" -> header {}", header.info),
+        FileType::Directory if header.is_dot() => format!(" -> header {}", header.info),
+        FileType::SymbolicLink => format!(" -> {}", words::name(header.content(image)?)),
+        FileType::BlockDevice | FileType::CharDevice => {
             let [major, minor] = header.device();
             format!(" {major},{minor}")
         }
@@ -81,7 +81,7 @@ fn content_at(image: &[u8], path: &[u8]) -> Result<(u32, u32), Refusal> {
     {
         let found = romfs::find(image, at, name)?;
         let entry = romfs::entry(image, found)?;
-        at = if entry.kind == HARD_LINK {
+        at = if entry.file_type == HARD_LINK {
             entry.info
         } else {
             found

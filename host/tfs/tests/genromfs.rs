@@ -35,13 +35,13 @@ impl<'a> Packed<'a> {
     fn lookup(&mut self) -> Lookup<'a> {
         let count = self.number();
         let names: Vec<&str> = (0..count).map(|_| self.text()).collect();
-        let [refusal, header, kind, executable, info, _size, _next] =
+        let [refusal, header, file_type, executable, info, _size, _next] =
             [(); 7].map(|()| self.number());
         Lookup {
             path: names.join("/"),
             refusal,
             header,
-            kind,
+            file_type,
             executable,
             info,
             content: self.bytes(),
@@ -53,7 +53,7 @@ struct Lookup<'a> {
     path: String,
     refusal: u32,
     header: u32,
-    kind: u32,
+    file_type: u32,
     executable: u32,
     info: u32,
     content: &'a [u8],
@@ -100,7 +100,7 @@ fn accepted(folder: &Folder, title: &str, lookups: &[Lookup]) {
             list.lines().any(|line| line.starts_with(&start)),
             "{title}: {path}"
         );
-        if matches!(lookup.kind, 2 | 3) {
+        if matches!(lookup.file_type, 2 | 3) {
             assert!(ran.granted() == lookup.content, "{title}: {path}");
         }
         extracted(&folder.path("out"), lookup, lookups, &report);
@@ -114,7 +114,7 @@ fn has_dots(path: &str) -> bool {
 
 fn extracted(out: &Path, lookup: &Lookup, lookups: &[Lookup], report: &str) {
     let path = out.join(&lookup.path);
-    match lookup.kind {
+    match lookup.file_type {
         0 if lookup.path.ends_with("..") => {}
         0 => {
             let target = lookups

@@ -3,7 +3,8 @@
 mod bench;
 
 use bench::{some, Folder};
-use reference::make::{damage_volume, volume, Random, Shape};
+use generate::tfs::{damage_volume, volume, Shape};
+use generate::Random;
 
 #[test]
 fn every_fault_of_a_volume_is_named() {

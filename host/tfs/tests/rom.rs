@@ -4,8 +4,9 @@ mod bench;
 
 use bench::rom::*;
 use bench::{some, Folder};
-use reference::make::{damage_rom, rom, Random, RomPlan};
-use reference::romfs::Kind;
+use generate::romfs::{damage_rom, rom, RomPlan};
+use generate::Random;
+use reference::romfs::FileType;
 use std::fs;
 use std::os::unix::fs::{MetadataExt, PermissionsExt};
 
@@ -219,20 +220,20 @@ fn made_images_are_listed_and_extracted() {
         folder.tfs("rom extract i out").text();
         assert_eq!(folder.names(), ["i", "out"]);
         for entry in made.entries.iter().filter(|entry| entry.depth == 1) {
-            same_content(&folder, &made.image, entry.kind, &entry.name);
+            same_content(&folder, &made.image, entry.file_type, &entry.name);
         }
         fs::remove_dir_all(folder.path("out")).unwrap();
     }
 }
 
 /// A file of the root list is extracted as the library gives it, where it is the first of its name.
-fn same_content(folder: &Folder, image: &[u8], kind: Kind, name: &[u8]) {
+fn same_content(folder: &Folder, image: &[u8], file_type: FileType, name: &[u8]) {
     let Ok(name) = std::str::from_utf8(name) else {
         return;
     };
     let first = reference::romfs::find(image, 0, name.as_bytes()).unwrap();
     let first = reference::romfs::entry(image, first).unwrap();
-    let plain = kind == Kind::RegularFile && first.kind == Kind::RegularFile;
+    let plain = file_type == FileType::RegularFile && first.file_type == FileType::RegularFile;
     if plain && !name.contains('/') && !matches!(name, "." | "..") {
         let printed = folder.run(&["rom", "cat", "--", "i", name]).granted();
         assert!(folder.read(&format!("out/{name}")) == printed, "{name}");

@@ -1,16 +1,14 @@
 -- `images` is safe and ends: no more images differ than have run. The measure is the number of images left.
-use mathlib.Core.Path.{_≡_}
 use Prim.Native.Nat.{_≤_, _-_}
-use lib.ListN.{length}
 use borrow.Author.Needs.{needs}
 use Rattle.genromfs_cases.proofs.images.Statement.{statement}
 use Rattle.genromfs_cases.proofs.images.Tie as tie
 
 abbrev Inv-loop : tie.InvT-loop
-Inv-loop count image₀ space₀ differ₀ k₀ image space differ k = (k ≤ count) × (differ ≤ k) × (length image ≡ length image₀) × (length space ≡ length space₀)
+Inv-loop count differ₀ k₀ differ k = (k ≤ count) × (differ ≤ k)
 
 abbrev μ-loop : tie.MeasureT-loop
-μ-loop count image₀ space₀ differ₀ k₀ image space differ k = count - k
+μ-loop count differ₀ k₀ differ k = count - k
 
 pub images-spec : {M : Type 1} → statement M
 images-spec =
@@ -21,8 +19,6 @@ images-spec =
     (λ c. search needs)
     (λ c. search needs)
     (λ c κs. search needs)
-    (λ c. search needs)
-    (λ c. search needs)
     (λ c. search needs)
     (λ c. search needs)
     (λ c. search needs)

@@ -5,13 +5,13 @@ use super::Answer;
 /// `romfs_header`.
 #[repr(C)]
 #[derive(Clone, Copy, Debug, PartialEq, Eq)]
-pub struct Described {
+pub struct Header {
     /// The number of the refusal; 0 is granted.
     pub refusal: u32,
     /// The header at fault.
     pub place: u32,
     /// The type, 0 to 7.
-    pub kind: u32,
+    pub file_type: u32,
     /// 1 if it is executable.
     pub executable: u32,
     /// The word spec.info.
@@ -41,7 +41,7 @@ pub struct Part {
 extern "C" {
     fn romfs_check(image: *const u8, image_length: usize) -> Answer;
     fn romfs_find(image: *const u8, image_length: usize, directory: u32, name: *const u8, name_length: usize) -> Answer;
-    fn romfs_entry(image: *const u8, image_length: usize, at: u32) -> Described;
+    fn romfs_entry(image: *const u8, image_length: usize, at: u32) -> Header;
     fn romfs_content(image: *const u8, image_length: usize, at: u32) -> Part;
 }
 
@@ -56,7 +56,7 @@ pub fn find(image: &[u8], directory: u32, name: &[u8]) -> Answer {
 }
 
 /// The entry at a header.
-pub fn entry(image: &[u8], at: u32) -> Described {
+pub fn entry(image: &[u8], at: u32) -> Header {
     unsafe { romfs_entry(image.as_ptr(), image.len(), at) }
 }
 

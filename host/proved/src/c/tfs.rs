@@ -5,7 +5,7 @@ use super::Answer;
 /// `tfs_slot`.
 #[repr(C)]
 #[derive(Clone, Copy, Debug, PartialEq, Eq)]
-pub struct Listed {
+pub struct Slot {
     /// The number of the refusal; 0 is granted.
     pub refusal: u32,
     /// The slot or block at fault.
@@ -30,7 +30,7 @@ extern "C" {
     fn tfs_remove(image: *mut u8, image_length: usize, name: *const u8, name_length: usize) -> Answer;
     fn tfs_read(image: *const u8, image_length: usize, handle: u32, offset: u32, buffer: *mut u8, buffer_length: usize) -> Answer;
     fn tfs_write(image: *mut u8, image_length: usize, handle: u32, offset: u32, buffer: *const u8, buffer_length: usize) -> Answer;
-    fn tfs_list(image: *const u8, image_length: usize, slot: u32) -> Listed;
+    fn tfs_list(image: *const u8, image_length: usize, slot: u32) -> Slot;
     fn tfs_free_bytes(image: *const u8, image_length: usize) -> Answer;
 }
 
@@ -70,7 +70,7 @@ pub fn write(image: &mut [u8], handle: u32, offset: u32, buffer: &[u8]) -> Answe
 }
 
 /// What stands in a slot.
-pub fn list(image: &[u8], slot: u32) -> Listed {
+pub fn list(image: &[u8], slot: u32) -> Slot {
     unsafe { tfs_list(image.as_ptr(), image.len(), slot) }
 }
 

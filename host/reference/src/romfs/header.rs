@@ -2,7 +2,7 @@
 
 /// The type of an entry.
 #[derive(Clone, Copy, Debug, PartialEq, Eq)]
-pub enum Kind {
+pub enum FileType {
     /// Another name of the entry at spec.info.
     HardLink = 0,
     /// A list of entries that starts at spec.info.
@@ -21,7 +21,7 @@ pub enum Kind {
     Fifo = 7,
 }
 
-impl Kind {
+impl FileType {
     const ALL: [Self; 8] = [
         Self::HardLink,
         Self::Directory,
@@ -43,7 +43,7 @@ impl Kind {
         matches!(self, Self::RegularFile | Self::SymbolicLink)
     }
 
-    const fn needs_zero_spec(self) -> bool {
+    const fn needs_zero_info(self) -> bool {
         matches!(
             self,
             Self::RegularFile | Self::SymbolicLink | Self::Socket | Self::Fifo
@@ -75,7 +75,7 @@ pub(super) fn name_extent(bytes: &[u8]) -> Option<(usize, usize)> {
 pub(super) struct Header<'a> {
     pub(super) at: u32,
     tagged: u32,
-    pub(super) spec: u32,
+    pub(super) info: u32,
     pub(super) size: u32,
     pub(super) name: &'a [u8],
     /// Where the content starts.
@@ -100,7 +100,7 @@ impl<'a> Header<'a> {
         Some(Self {
             at,
             tagged: word(fixed, 0),
-            spec: word(fixed, 4),
+            info: word(fixed, 4),
             size,
             name: &behind[..length],
             data: data as u32,
@@ -111,16 +111,16 @@ impl<'a> Header<'a> {
     /// Decodes the header at an offset and applies rule 26.
     pub(super) fn sound(image: &'a [u8], at: u32, bound: u32) -> Option<Self> {
         let header = Self::decode(image, at, bound)?;
-        let kind = header.kind();
+        let file_type = header.file_type();
         let sound = !header.name.is_empty()
-            && (header.spec == 0 || !kind.needs_zero_spec())
-            && (header.size == 0 || kind.has_content())
+            && (header.info == 0 || !file_type.needs_zero_info())
+            && (header.size == 0 || file_type.has_content())
             && sum(&image[at as usize..header.data as usize]) == 0;
         sound.then_some(header)
     }
 
-    pub(super) fn kind(&self) -> Kind {
-        Kind::from_bits(self.tagged)
+    pub(super) fn file_type(&self) -> FileType {
+        FileType::from_bits(self.tagged)
     }
 
     pub(super) fn executable(&self) -> bool {
@@ -134,18 +134,18 @@ impl<'a> Header<'a> {
 
     /// Tells whether this is a directory named "." or "..".
     pub(super) fn is_dot(&self) -> bool {
-        self.kind() == Kind::Directory && matches!(self.name, b"." | b"..")
+        self.file_type() == FileType::Directory && matches!(self.name, b"." | b"..")
     }
 
     /// Tells whether rule 29 has a say about this header.
     pub(super) fn points_elsewhere(&self) -> bool {
-        self.kind() == Kind::HardLink || self.is_dot()
+        self.file_type() == FileType::HardLink || self.is_dot()
     }
 
     /// The first header of the list below this entry, or 0.
     pub(super) fn first(&self) -> u32 {
-        if self.kind() == Kind::Directory && !self.is_dot() {
-            self.spec
+        if self.file_type() == FileType::Directory && !self.is_dot() {
+            self.info
         } else {
             0
         }

@@ -6,7 +6,7 @@ mod header;
 mod volume;
 mod walk;
 
-pub use header::Kind;
+pub use header::FileType;
 
 use crate::Refusal;
 use volume::Rom;
@@ -15,11 +15,11 @@ use volume::Rom;
 #[derive(Clone, Copy, Debug, PartialEq, Eq)]
 pub struct Entry {
     /// The type of the entry.
-    pub kind: Kind,
+    pub file_type: FileType,
     /// Whether the executable bit is set.
     pub executable: bool,
     /// The word whose meaning depends on the type.
-    pub spec_info: u32,
+    pub info: u32,
     /// The size of the content in bytes.
     pub size: u32,
     /// The offset of the next header in the list, without the low four bits, or 0.
@@ -39,7 +39,7 @@ pub fn find(image: &[u8], dir: u32, name: &[u8]) -> Result<u32, Refusal> {
     let first = match dir {
         0 => rom.root(),
         _ => match rom.reached(dir) {
-            Some(header) if header.kind() == Kind::Directory => header.spec,
+            Some(header) if header.file_type() == FileType::Directory => header.info,
             _ => return Err(Refusal::plain(31)),
         },
     };
@@ -53,9 +53,9 @@ pub fn find(image: &[u8], dir: u32, name: &[u8]) -> Result<u32, Refusal> {
 pub fn entry(image: &[u8], at: u32) -> Result<Entry, Refusal> {
     let header = Rom::checked(image)?.reached(at).ok_or(Refusal::plain(31))?;
     Ok(Entry {
-        kind: header.kind(),
+        file_type: header.file_type(),
         executable: header.executable(),
-        spec_info: header.spec,
+        info: header.info,
         size: header.size,
         next: header.next(),
         name_length: header.name.len() as u32,
@@ -75,7 +75,7 @@ pub fn content(image: &[u8], at: u32) -> &[u8] {
 fn content_part(image: &[u8], at: u32) -> Result<&[u8], Refusal> {
     let rom = Rom::checked(image)?;
     match rom.reached(at) {
-        Some(header) if header.kind().has_content() => Ok(rom.content(&header)),
+        Some(header) if header.file_type().has_content() => Ok(rom.content(&header)),
         _ => Err(Refusal::plain(31)),
     }
 }

@@ -1,6 +1,6 @@
 //! The check of an image, and the view of an image that has passed it.
 
-use super::header::{name_extent, sum, word, Header, Kind};
+use super::header::{name_extent, sum, word, FileType, Header};
 use super::walk::Walk;
 use crate::Refusal;
 
@@ -54,9 +54,11 @@ impl<'a> Rom<'a> {
     fn check_links(&self) -> Result<(), Refusal> {
         for header in self.walk() {
             let header = header?;
-            let target = || self.reached(header.spec);
-            let sound = match header.kind() {
-                Kind::HardLink => target().is_some_and(|other| other.kind() != Kind::HardLink),
+            let target = || self.reached(header.info);
+            let sound = match header.file_type() {
+                FileType::HardLink => {
+                    target().is_some_and(|other| other.file_type() != FileType::HardLink)
+                }
                 _ => !header.is_dot() || target().is_some(),
             };
             if !sound {

@@ -3,7 +3,7 @@
 //! Every name is new in a folder that this program has made, so no link of the image is ever
 //! followed, and a name that stands twice is met as one that exists.
 
-use super::walk::{Header, Kind, Walk};
+use super::walk::{FileType, Header, Walk};
 use super::{accepted, unread};
 use crate::failure::{Failure, Outcome};
 use crate::files;
@@ -64,7 +64,9 @@ impl<'a> Tree<'a> {
             self.names.truncate(depth - 1);
             self.names.push(OsStr::from_bytes(header.name));
             // The host makes "." and ".." of a directory itself.
-            if header.is_dot() && matches!(header.kind, Kind::Directory | Kind::HardLink) {
+            if header.is_dot()
+                && matches!(header.file_type, FileType::Directory | FileType::HardLink)
+            {
                 continue;
             }
             if let Some(why) = self.place(&header)? {
@@ -90,8 +92,8 @@ impl<'a> Tree<'a> {
             return Ok(Some(why));
         }
         let path = self.below(self.inside);
-        let made = match meant.kind {
-            Kind::Directory => fs::create_dir(path),
+        let made = match meant.file_type {
+            FileType::Directory => fs::create_dir(path),
             _ => self.write(&meant, path),
         };
         match made {
@@ -105,7 +107,7 @@ impl<'a> Tree<'a> {
 
     /// The header itself, or the one that a hard link leads to.
     fn meant(&mut self, header: &Header<'a>) -> Option<Header<'a>> {
-        if header.kind != Kind::HardLink {
+        if header.file_type != FileType::HardLink {
             return Some(*header);
         }
         if let Some(known) = self.targets.get(&header.info) {
@@ -126,8 +128,8 @@ impl<'a> Tree<'a> {
             }
         }
         let content = self.content(meant)?;
-        match meant.kind {
-            Kind::SymbolicLink => symlink(OsStr::from_bytes(content), &path)?,
+        match meant.file_type {
+            FileType::SymbolicLink => symlink(OsStr::from_bytes(content), &path)?,
             _ if meant.executable => files::fill_new(&path, content, 0o777)?,
             _ => files::fill_new(&path, content, 0o666)?,
         }
@@ -153,18 +155,18 @@ impl<'a> Tree<'a> {
         if header.is_dot() || name.contains(&b'/') || name.len() > LONGEST_NAME {
             return Some("no name for a host file".to_string());
         }
-        match meant.kind {
-            Kind::Directory if header.kind == Kind::HardLink => {
+        match meant.file_type {
+            FileType::Directory if header.file_type == FileType::HardLink => {
                 Some("hard link to a directory".to_string())
             }
-            Kind::SymbolicLink if !self.content(meant).is_ok_and(is_target) => {
+            FileType::SymbolicLink if !self.content(meant).is_ok_and(is_target) => {
                 Some("no target for a link of the host".to_string())
             }
-            Kind::BlockDevice | Kind::CharDevice => {
-                let (word, [major, minor]) = (meant.kind.word(), meant.device());
+            FileType::BlockDevice | FileType::CharDevice => {
+                let (word, [major, minor]) = (meant.file_type.word(), meant.device());
                 Some(format!("{word} {major},{minor}"))
             }
-            Kind::Socket | Kind::Fifo => Some(meant.kind.word().to_string()),
+            FileType::Socket | FileType::Fifo => Some(meant.file_type.word().to_string()),
             _ => None,
         }
     }

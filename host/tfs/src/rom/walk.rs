@@ -8,10 +8,10 @@ const DEEPEST: usize = 8;
 
 /// The types of entries.
 #[derive(Clone, Copy, Debug, PartialEq, Eq)]
-pub enum Kind {
+pub enum FileType {
     HardLink,
     Directory,
-    File,
+    RegularFile,
     SymbolicLink,
     BlockDevice,
     CharDevice,
@@ -19,12 +19,12 @@ pub enum Kind {
     Fifo,
 }
 
-impl Kind {
+impl FileType {
     fn of(first: u32) -> Self {
         match first % 8 {
             0 => Self::HardLink,
             1 => Self::Directory,
-            2 => Self::File,
+            2 => Self::RegularFile,
             3 => Self::SymbolicLink,
             4 => Self::BlockDevice,
             5 => Self::CharDevice,
@@ -38,7 +38,7 @@ impl Kind {
         match self {
             Self::HardLink => "hardlink",
             Self::Directory => "directory",
-            Self::File => "file",
+            Self::RegularFile => "file",
             Self::SymbolicLink => "symlink",
             Self::BlockDevice => "block",
             Self::CharDevice => "char",
@@ -53,7 +53,7 @@ impl Kind {
 pub struct Header<'a> {
     /// Its offset in the image.
     pub at: u32,
-    pub kind: Kind,
+    pub file_type: FileType,
     pub executable: bool,
     /// spec.info: a directory's first header, a hard link's target, a device's numbers.
     pub info: u32,
@@ -69,7 +69,7 @@ impl<'a> Header<'a> {
         let first = word(image, at as usize)?;
         Some(Self {
             at,
-            kind: Kind::of(first),
+            file_type: FileType::of(first),
             executable: first & 8 != 0,
             info: word(image, at as usize + 4)?,
             size: word(image, at as usize + 8)?,
@@ -96,7 +96,7 @@ impl<'a> Header<'a> {
 
     /// The first header of the entry's own list, or 0; directories "." and ".." have none.
     fn list(&self) -> u32 {
-        if self.kind == Kind::Directory && !self.is_dot() {
+        if self.file_type == FileType::Directory && !self.is_dot() {
             self.info
         } else {
             0

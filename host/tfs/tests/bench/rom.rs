@@ -4,16 +4,16 @@ use super::some;
 
 /// An entry to put into an image.
 pub struct Node {
-    kind: u32,
+    file_type: u32,
     name: Vec<u8>,
     info: u32,
     content: Vec<u8>,
     list: Vec<Node>,
 }
 
-fn node(kind: u32, name: &[u8]) -> Node {
+fn node(file_type: u32, name: &[u8]) -> Node {
     Node {
-        kind,
+        file_type,
         name: name.to_vec(),
         info: 0,
         content: Vec::new(),
@@ -129,7 +129,7 @@ fn place(image: &mut Vec<u8>, list: &[Node]) {
             0
         };
         let info = if node.list.is_empty() { node.info } else { own };
-        set(image, at, next | node.kind);
+        set(image, at, next | node.file_type);
         set(image, at + 4, info);
         set(image, at + 8, node.content.len() as u32);
         seal(image, at, end);

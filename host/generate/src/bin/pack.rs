@@ -13,11 +13,11 @@
 //! A *number* is four bytes and a *hash* eight, both big-endian. *Bytes* are a number, which
 //! is their length, and then so many bytes. The file is a number, which is the count of cases,
 //! and then the cases one after another with nothing between or behind them. Each case has the
-//! same parts in the same order, and the parts that its kind has no use for are 0 or empty:
+//! same parts in the same order, and the parts that its request has no use for are 0 or empty:
 //!
 //! | Part | Form | Meaning |
 //! |---|---|---|
-//! | kind | one byte | the request, see below |
+//! | request | one byte | which it is, see below |
 //! | first | number | handle, size, slot, directory or header |
 //! | second | number | offset |
 //! | name | bytes | name given to the request |
@@ -30,9 +30,9 @@
 //! | after | hash | FNV-1a, 64 bits, of the image and then the buffer after the request |
 //!
 //! The hash stands in every case. A refused request leaves image and buffer as they were, and
-//! so do the kinds marked with a dash.
+//! so do the requests marked with a dash.
 //!
-//! | Kind | Request | Uses | Values, text if granted | Changes |
+//! | Number | Request | Uses | Values, text if granted | Changes |
 //! |---|---|---|---|---|
 //! | 1 | TFS check | | | - |
 //! | 2 | TFS format | name | | image |
@@ -55,7 +55,7 @@ use std::env;
 use std::fs;
 use std::process::ExitCode;
 
-use reference::cases::{romfs_cases, tfs_cases, Case};
+use generate::cases::{romfs_cases, tfs_cases, Case};
 
 const USAGE: &str = "usage: pack tfs|romfs OUT [--seed S] [--cases N] [--large]";
 
@@ -120,12 +120,12 @@ fn pack(cases: &[Case]) -> Vec<u8> {
 
 fn put_case(out: &mut Vec<u8>, case: &Case) {
     let Case {
-        kind,
+        request,
         arguments,
         image,
         answer,
     } = case;
-    out.push(*kind as u8);
+    out.push(*request as u8);
     put_number(out, arguments.first);
     put_number(out, arguments.second);
     put_bytes(out, &arguments.name);
@@ -156,13 +156,13 @@ mod tests {
 
     #[test]
     fn a_case_has_the_written_form() {
-        use reference::cases::{Arguments, Kind};
+        use reference::request::{Arguments, Request};
         let arguments = Arguments {
             first: 7,
             name: b"n".to_vec(),
             ..Arguments::default()
         };
-        let packed = pack(&[Case::new(Kind::TfsList, arguments, &[0xAB])]);
+        let packed = pack(&[Case::new(Request::TfsList, arguments, &[0xAB])]);
         let mut expected = vec![0, 0, 0, 1, 8, 0, 0, 0, 7, 0, 0, 0, 0];
         expected.extend([0, 0, 0, 1, b'n', 0, 0, 0, 0, 0, 0, 0, 1, 0xAB]);
         expected.extend([0, 0, 0, 1, 0, 0, 0, 0, 0, 0, 0, 0, 0, 0, 0, 0]);

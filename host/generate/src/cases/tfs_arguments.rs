@@ -1,27 +1,29 @@
 //! Arguments of requests on TFS volumes.
 
-use super::{Arguments, Kind};
-use crate::make::{MadeFile, Random, Volume};
-use crate::tfs::{BLOCK_SIZE, LARGEST_FILE, SLOTS};
+use reference::request::{Arguments, Request};
+use reference::tfs::{BLOCK_SIZE, LARGEST_FILE, SLOTS};
+
+use crate::tfs::{File, Volume};
+use crate::Random;
 
 /// Draws arguments for a request on a volume, mostly good ones.
-pub fn tfs_arguments(random: &mut Random, made: &Volume, kind: Kind) -> Arguments {
-    match kind {
-        Kind::TfsCreate => Arguments {
+pub fn tfs_arguments(random: &mut Random, made: &Volume, request: Request) -> Arguments {
+    match request {
+        Request::TfsCreate => Arguments {
             first: size(random, made),
             name: name(random, made, 6),
             ..Arguments::default()
         },
-        Kind::TfsOpen | Kind::TfsRemove => Arguments {
+        Request::TfsOpen | Request::TfsRemove => Arguments {
             name: name(random, made, 2),
             ..Arguments::default()
         },
-        Kind::TfsFormat => Arguments {
+        Request::TfsFormat => Arguments {
             name: name(random, made, 4),
             ..Arguments::default()
         },
-        Kind::TfsRead | Kind::TfsWrite => transfer(random, made),
-        Kind::TfsList => Arguments {
+        Request::TfsRead | Request::TfsWrite => transfer(random, made),
+        Request::TfsList => Arguments {
             first: slot(random, made),
             ..Arguments::default()
         },
@@ -29,8 +31,8 @@ pub fn tfs_arguments(random: &mut Random, made: &Volume, kind: Kind) -> Argument
     }
 }
 
-fn any_file<'a>(random: &mut Random, made: &'a Volume) -> Option<&'a MadeFile> {
-    let files: Vec<&MadeFile> = made.files.iter().collect();
+fn any_file<'a>(random: &mut Random, made: &'a Volume) -> Option<&'a File> {
+    let files: Vec<&File> = made.files.iter().collect();
     random.choose(&files)
 }
 
@@ -121,7 +123,7 @@ fn transfer(random: &mut Random, made: &Volume) -> Arguments {
 }
 
 /// The handle of a file, mostly, or one of its content blocks, or a number that may be neither.
-fn handle(random: &mut Random, made: &Volume, file: Option<&MadeFile>, any: u32) -> u32 {
+fn handle(random: &mut Random, made: &Volume, file: Option<&File>, any: u32) -> u32 {
     let count = made.blocks as u32;
     match file {
         Some(file) if random.below(8) < 6 => file.inode,

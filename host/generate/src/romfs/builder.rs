@@ -1,9 +1,10 @@
 //! romfs images put together from their entries.
 
-use super::rom_words::{seal_header, seal_volume, set, set_next};
-use crate::romfs::Kind;
+use reference::romfs::FileType;
 
-/// An entry of a made image.
+use super::words::{seal_header, seal_volume, set, set_next};
+
+/// An entry of a generated image.
 #[derive(Clone, Debug)]
 pub struct Placed {
     /// The offset of the header.
@@ -11,7 +12,7 @@ pub struct Placed {
     /// The name without the zeros behind it.
     pub name: Vec<u8>,
     /// The type.
-    pub kind: Kind,
+    pub file_type: FileType,
     /// The depth of the list that the entry stands in, 1 for the root.
     pub depth: usize,
     /// Where the content starts.
@@ -29,12 +30,12 @@ pub struct Placed {
 impl Placed {
     /// Tells whether this is a directory named "." or "..".
     pub fn is_dot(&self) -> bool {
-        self.kind == Kind::Directory && matches!(&self.name[..], b"." | b"..")
+        self.file_type == FileType::Directory && matches!(&self.name[..], b"." | b"..")
     }
 
     /// Tells whether this is a directory of any other name, whose list the walk visits.
     pub fn is_descended(&self) -> bool {
-        self.kind == Kind::Directory && !self.is_dot()
+        self.file_type == FileType::Directory && !self.is_dot()
     }
 
     /// Gives the bound of the entry itself, which is also that of its list.
@@ -47,7 +48,7 @@ impl Placed {
     }
 }
 
-/// A made image and what stands in it.
+/// A generated image and what stands in it.
 #[derive(Clone, Debug)]
 pub struct Rom {
     /// The bytes of the image and perhaps some behind it.
@@ -87,16 +88,16 @@ impl RomBuilder {
     }
 
     /// Adds an entry that has no content and leads nowhere, and gives its index.
-    pub fn entry(&mut self, name: &[u8], kind: Kind, depth: usize) -> usize {
+    pub fn entry(&mut self, name: &[u8], file_type: FileType, depth: usize) -> usize {
         let at = self.image.len();
         self.image.resize(at + 16, 0);
-        set(&mut self.image, at, kind as u32);
+        set(&mut self.image, at, file_type as u32);
         self.push_name(name);
         let data = self.image.len() as u32;
         self.entries.push(Placed {
             at: at as u32,
             name: name.to_vec(),
-            kind,
+            file_type,
             depth,
             data,
             end: data,
@@ -124,8 +125,8 @@ impl RomBuilder {
     }
 
     /// Sets the word spec.info of an entry.
-    pub fn set_spec(&mut self, index: usize, spec: u32) {
-        set(&mut self.image, self.entries[index].at as usize + 4, spec);
+    pub fn set_info(&mut self, index: usize, info: u32) {
+        set(&mut self.image, self.entries[index].at as usize + 4, info);
     }
 
     /// Lets an entry follow another in a list.
@@ -144,7 +145,7 @@ impl RomBuilder {
     pub fn aims(&self) -> (Vec<u32>, Vec<u32>) {
         let all = self.entries.iter().map(|entry| entry.at);
         let targets = self.entries.iter();
-        let targets = targets.filter(|entry| entry.kind != Kind::HardLink);
+        let targets = targets.filter(|entry| entry.file_type != FileType::HardLink);
         (all.collect(), targets.map(|entry| entry.at).collect())
     }
 

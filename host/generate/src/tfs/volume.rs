@@ -1,11 +1,12 @@
 //! Consistent TFS volumes.
 
-use super::Random;
-use crate::tfs::{self, BLOCK_SIZE, LARGEST_FILE, MAGIC, MOST_BLOCKS, SLOTS};
+use reference::tfs::{self, BLOCK_SIZE, LARGEST_FILE, MAGIC, MOST_BLOCKS, SLOTS};
 
-/// A file of a made volume.
+use crate::Random;
+
+/// A file of a generated volume.
 #[derive(Clone, Debug, PartialEq, Eq)]
-pub struct MadeFile {
+pub struct File {
     /// The slot of the directory that holds the file.
     pub slot: usize,
     /// The name without the zeros behind it.
@@ -18,7 +19,7 @@ pub struct MadeFile {
     pub blocks: Vec<u32>,
 }
 
-/// A made volume and what stands in it.
+/// A generated volume and what stands in it.
 #[derive(Clone, Debug)]
 pub struct Volume {
     /// The bytes of the image.
@@ -26,7 +27,7 @@ pub struct Volume {
     /// The number of blocks that count.
     pub blocks: usize,
     /// The files in the order of their slots.
-    pub files: Vec<MadeFile>,
+    pub files: Vec<File>,
 }
 
 /// What a volume is to be filled with.
@@ -105,11 +106,11 @@ fn canvas(random: &mut Random, blocks: usize) -> Vec<u8> {
 }
 
 /// Draws the files of a volume; each takes its blocks out of those that are left.
-fn plan(random: &mut Random, shape: Shape, blocks: usize) -> Vec<MadeFile> {
+fn plan(random: &mut Random, shape: Shape, blocks: usize) -> Vec<File> {
     let mut free = mixed(random, 3..blocks as u32, 4);
     let mut slots = mixed(random, 0..SLOTS, 3);
     slots.truncate(file_count(random, shape));
-    let mut files: Vec<MadeFile> = Vec::new();
+    let mut files: Vec<File> = Vec::new();
     for (index, &slot) in slots.iter().enumerate() {
         let Some(inode) = free.pop() else {
             break;
@@ -123,7 +124,7 @@ fn plan(random: &mut Random, shape: Shape, blocks: usize) -> Vec<MadeFile> {
         };
         let content = free.split_off(free.len() - size.div_ceil(BLOCK_SIZE));
         let name = fresh_name(random, &files);
-        files.push(MadeFile {
+        files.push(File {
             slot,
             name,
             inode,
@@ -178,7 +179,7 @@ fn some_size(random: &mut Random, most: usize) -> usize {
     size.min(most)
 }
 
-fn fresh_name(random: &mut Random, files: &[MadeFile]) -> Vec<u8> {
+fn fresh_name(random: &mut Random, files: &[File]) -> Vec<u8> {
     loop {
         let length = if random.one_in(3) {
             15
@@ -193,7 +194,7 @@ fn fresh_name(random: &mut Random, files: &[MadeFile]) -> Vec<u8> {
 }
 
 /// Writes a volume over noise and leaves the noise wherever the rules ignore it.
-fn draw(random: &mut Random, image: &mut [u8], blocks: usize, files: &[MadeFile]) {
+fn draw(random: &mut Random, image: &mut [u8], blocks: usize, files: &[File]) {
     image[..4].copy_from_slice(&MAGIC.to_be_bytes());
     let end = random.between(0, 15);
     let label = random.name(end);
@@ -271,7 +272,7 @@ fn lived(random: &mut Random, blocks: usize) -> Volume {
 }
 
 /// The files of a consistent image.
-fn survey(image: &[u8]) -> Vec<MadeFile> {
+fn survey(image: &[u8]) -> Vec<File> {
     let number =
         |at: usize| u32::from_be_bytes([image[at], image[at + 1], image[at + 2], image[at + 3]]);
     (0..SLOTS)
@@ -280,7 +281,7 @@ fn survey(image: &[u8]) -> Vec<MadeFile> {
                 let first = inode as usize * BLOCK_SIZE + 4;
                 let count = (size as usize).div_ceil(BLOCK_SIZE);
                 let blocks = (0..count).map(|index| number(first + 4 * index)).collect();
-                Some(MadeFile {
+                Some(File {
                     slot,
                     name: name.to_vec(),
                     inode,

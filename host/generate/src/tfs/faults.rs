@@ -1,9 +1,10 @@
 //! Volumes with faults of a known number and place.
 
-use super::volume::map_byte;
-use super::{MadeFile, Random, Volume};
-use crate::tfs::{BLOCK_SIZE, LARGEST_FILE, SLOTS};
-use crate::Refusal;
+use reference::tfs::{BLOCK_SIZE, LARGEST_FILE, SLOTS};
+use reference::Refusal;
+
+use super::volume::{map_byte, File, Volume};
+use crate::Random;
 
 /// Breaks one of the rules 1 to 7 and gives the image with the answer that a check owes it.
 ///
@@ -116,8 +117,8 @@ impl<'a> Damage<'a> {
         2 * BLOCK_SIZE + 20 * slot
     }
 
-    fn files(&self) -> Vec<&'a MadeFile> {
-        let untaken = |file: &&MadeFile| !self.taken.contains(&file.slot);
+    fn files(&self) -> Vec<&'a File> {
+        let untaken = |file: &&File| !self.taken.contains(&file.slot);
         self.volume.files.iter().filter(untaken).collect()
     }
 
@@ -164,7 +165,7 @@ impl<'a> Damage<'a> {
         Some(slot as u32)
     }
 
-    fn break_used_slot(&mut self, random: &mut Random, files: &[&MadeFile]) -> u32 {
+    fn break_used_slot(&mut self, random: &mut Random, files: &[&File]) -> u32 {
         if files.len() > 1 && random.one_in(3) {
             let lower = random.below(files.len() - 1);
             let higher = random.between(lower + 1, files.len() - 1);
@@ -252,14 +253,14 @@ impl<'a> Damage<'a> {
     fn share_inode_with_new_name(
         &mut self,
         random: &mut Random,
-        other: &MadeFile,
+        other: &File,
         free: &[usize],
         lowest: u32,
     ) -> u32 {
         let slot = random.pick(free);
         let at = Self::slot_at(slot);
         self.set(at, other.inode);
-        // Fifteen bytes above 7F hex, as no made file has for a name.
+        // Fifteen bytes above 7F hex, as no generated file has for a name.
         self.image[at + 4..at + 19].fill_with(|| random.nonzero() | 0x80);
         self.taken.extend([slot, other.slot]);
         lowest

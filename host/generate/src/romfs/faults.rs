@@ -2,10 +2,12 @@
 
 use std::ops::Range;
 
-use super::rom_words::{seal_header, seal_volume, set, set_next};
-use super::{Placed, Random, Rom};
-use crate::romfs::Kind;
-use crate::Refusal;
+use reference::romfs::FileType;
+use reference::Refusal;
+
+use super::builder::{Placed, Rom};
+use super::words::{seal_header, seal_volume, set, set_next};
+use crate::Random;
 
 /// Breaks one of the rules 21 to 27 and 29 and gives the image with the answer owed to it.
 ///
@@ -186,7 +188,8 @@ impl<'a> Damage<'a> {
     fn break_header(&mut self, random: &mut Random) -> Option<u32> {
         let entry = self.pick_entry(random, |_| true)?;
         let at = entry.at as usize;
-        let governed = matches!(entry.kind, Kind::Socket | Kind::Fifo) || entry.kind.has_content();
+        let governed = matches!(entry.file_type, FileType::Socket | FileType::Fifo)
+            || entry.file_type.has_content();
         match random.below(7) {
             0 => {
                 let over = entry.bound - entry.data + 1;
@@ -196,10 +199,10 @@ impl<'a> Damage<'a> {
             1 => self.image[at + 16] = 0,
             2 => self.fill_nonzero(random, at + 16..entry.bound as usize),
             3 if governed => {
-                let spec = random.pick(&[1, 16, entry.at, u32::MAX]);
-                set(&mut self.image, at + 4, spec);
+                let info = random.pick(&[1, 16, entry.at, u32::MAX]);
+                set(&mut self.image, at + 4, info);
             }
-            4 if !entry.kind.has_content() => {
+            4 if !entry.file_type.has_content() => {
                 set(&mut self.image, at + 8, random.pick(&[1, 16, u32::MAX]));
             }
             5 if entry.next == 0 && entry.end < entry.bound && entry.first == 0 => {
@@ -257,7 +260,7 @@ impl<'a> Damage<'a> {
     }
 
     fn break_link(&mut self, random: &mut Random) -> Option<u32> {
-        let link = |entry: &Placed| entry.kind == Kind::HardLink || entry.is_dot();
+        let link = |entry: &Placed| entry.file_type == FileType::HardLink || entry.is_dot();
         let entry = self.pick_entry(random, link)?;
         let full_size = self.rom.full_size;
         let entries = &self.rom.entries;
@@ -270,16 +273,20 @@ impl<'a> Damage<'a> {
             entry.at | 1,
             u32::MAX,
         ];
-        if entry.kind == Kind::HardLink {
-            let links = entries.iter().filter(|other| other.kind == Kind::HardLink);
+        if entry.file_type == FileType::HardLink {
+            let links = entries
+                .iter()
+                .filter(|other| other.file_type == FileType::HardLink);
             wrong.extend(links.map(|other| other.at));
         }
-        if let Some(other) = entries.iter().find(|other| other.kind.has_content()) {
+        if let Some(other) = entries.iter().find(|other| other.file_type.has_content()) {
             wrong.extend([other.at + 2, other.data]);
         }
         wrong.retain(|aim| {
             entries.iter().all(|other| {
-                other.at != *aim || (entry.kind == Kind::HardLink && other.kind == Kind::HardLink)
+                other.at != *aim
+                    || (entry.file_type == FileType::HardLink
+                        && other.file_type == FileType::HardLink)
             })
         });
         set(&mut self.image, entry.at as usize + 4, random.pick(&wrong));

@@ -1,12 +1,14 @@
 //! Allowed romfs images of many short headers, with many links, in lists long and deep.
 
-use reference::make::{Random, Rom, RomBuilder};
-use reference::romfs::Kind;
+use reference::romfs::FileType;
+
+use super::builder::{Rom, RomBuilder};
+use crate::Random;
 
 const DEEPEST: usize = 8;
 
 /// Makes a tree of about so many entries; a few of its links may lead to no right header.
-pub(crate) fn forest(random: &mut Random, count: usize) -> Rom {
+pub fn forest_rom(random: &mut Random, count: usize) -> Rom {
     let mut forest = Forest {
         width: random.pick(&[3, 8, 40, count]),
         count,
@@ -49,8 +51,8 @@ impl Forest {
 
     /// Adds an entry whose links are not yet set, and gives its index.
     fn entry(&mut self, random: &mut Random, depth: usize) -> usize {
-        use Kind::{Directory, HardLink, RegularFile};
-        let kind = random.pick(&[
+        use FileType::{Directory, HardLink, RegularFile};
+        let file_type = random.pick(&[
             HardLink,
             HardLink,
             Directory,
@@ -59,8 +61,8 @@ impl Forest {
             RegularFile,
         ]);
         let name = random.pick(&[&b"a"[..], b"b", b"abc", b".", b".."]);
-        let index = self.rom.entry(name, kind, depth);
-        if kind == RegularFile {
+        let index = self.rom.entry(name, file_type, depth);
+        if file_type == RegularFile {
             let size = random.pick(&[0, 0, 0, 1, 16, 40]);
             random.fill(self.rom.content(size));
         }
@@ -73,8 +75,8 @@ impl Forest {
         let full_size = self.rom.image.len();
         for index in 0..self.rom.entries.len() {
             let entry = &self.rom.entries[index];
-            let aim = match entry.kind {
-                Kind::HardLink => random.choose(&targets).unwrap_or(0),
+            let aim = match entry.file_type {
+                FileType::HardLink => random.choose(&targets).unwrap_or(0),
                 _ if entry.is_dot() => random.pick(&all),
                 _ => continue,
             };
@@ -82,7 +84,7 @@ impl Forest {
             let near = random.pick(&all) + random.pick(&[4, 8, 15, 16]);
             let wrong = random.pick(&[any, any & !15, near, near, full_size as u32, 0]);
             let strays = astray && random.one_in(200);
-            self.rom.set_spec(index, if strays { wrong } else { aim });
+            self.rom.set_info(index, if strays { wrong } else { aim });
         }
     }
 }
@@ -98,7 +100,7 @@ mod tests {
         let mut refused = 0;
         let mut deepest = 0;
         for _ in 0..60 {
-            let made = forest(&mut random, 600);
+            let made = forest_rom(&mut random, 600);
             // Some headers share one of 256 equal parts of the image.
             assert!(made.entries.len() >= 600 && made.full_size > 256 * 64);
             match romfs::check(&made.image) {

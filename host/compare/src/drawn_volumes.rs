@@ -1,7 +1,8 @@
 //! What is drawn for TFS: volumes, and arguments besides the usual ones.
 
-use reference::cases::{Arguments, Kind};
-use reference::make::{any_volume, volume, MadeFile, Random, Shape, Volume};
+use generate::tfs::{any_volume, volume, File, Shape, Volume};
+use generate::Random;
+use reference::request::{Arguments, Request};
 use reference::tfs::{BLOCK_SIZE, LARGEST_FILE, MOST_BLOCKS};
 
 /// A consistent volume, mostly a small one, or noise.
@@ -49,16 +50,23 @@ fn noise(random: &mut Random) -> Volume {
 }
 
 /// Now and then takes names and handles of gone files, and numbers at the far ends.
-pub(crate) fn twist(random: &mut Random, past: &[MadeFile], kind: Kind, arguments: &mut Arguments) {
+pub(crate) fn twist(
+    random: &mut Random,
+    past: &[File],
+    request: Request,
+    arguments: &mut Arguments,
+) {
     let gone = (!past.is_empty()).then(|| &past[random.below(past.len())]);
-    match kind {
-        Kind::TfsRead | Kind::TfsWrite => twist_transfer(random, gone, arguments),
-        Kind::TfsOpen | Kind::TfsRemove | Kind::TfsCreate => twist_name(random, gone, arguments),
+    match request {
+        Request::TfsRead | Request::TfsWrite => twist_transfer(random, gone, arguments),
+        Request::TfsOpen | Request::TfsRemove | Request::TfsCreate => {
+            twist_name(random, gone, arguments)
+        }
         _ => {}
     }
 }
 
-fn twist_transfer(random: &mut Random, gone: Option<&MadeFile>, arguments: &mut Arguments) {
+fn twist_transfer(random: &mut Random, gone: Option<&File>, arguments: &mut Arguments) {
     const LARGEST: usize = LARGEST_FILE as usize;
     if let (Some(file), true) = (gone, random.one_in(6)) {
         arguments.first = file.inode;
@@ -76,7 +84,7 @@ fn twist_transfer(random: &mut Random, gone: Option<&MadeFile>, arguments: &mut 
     }
 }
 
-fn twist_name(random: &mut Random, gone: Option<&MadeFile>, arguments: &mut Arguments) {
+fn twist_name(random: &mut Random, gone: Option<&File>, arguments: &mut Arguments) {
     if let (Some(file), true) = (gone, random.one_in(6)) {
         arguments.name = file.name.clone();
     }

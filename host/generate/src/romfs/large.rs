@@ -1,7 +1,8 @@
 //! Allowed romfs images with many entries, of a plain and known form.
 
-use super::{Rom, RomBuilder};
-use crate::romfs::Kind;
+use reference::romfs::FileType;
+
+use super::builder::{Rom, RomBuilder};
 
 const LABEL: &[u8] = b"large";
 
@@ -13,12 +14,13 @@ pub fn flat_rom(files: usize, links: usize) -> Rom {
     let mut last = None;
     for number in 0..files + links {
         let link = number.checked_sub(files);
-        let (letter, kind) = link.map_or(('f', Kind::RegularFile), |_| ('l', Kind::HardLink));
+        let (letter, file_type) =
+            link.map_or(('f', FileType::RegularFile), |_| ('l', FileType::HardLink));
         let name = format!("{letter}{:08}", link.unwrap_or(number));
-        let index = rom.entry(name.as_bytes(), kind, 1);
+        let index = rom.entry(name.as_bytes(), file_type, 1);
         if let Some(link) = link {
             let aim = rom.entries[link % files].at;
-            rom.set_spec(index, aim);
+            rom.set_info(index, aim);
         }
         rom.chain(last, index);
         last = Some(index);
@@ -65,7 +67,7 @@ impl Tree {
 
     /// Adds a directory with its list, and gives its index.
     fn directory(&mut self, name: &str, depth: usize) -> usize {
-        let index = self.rom.entry(name.as_bytes(), Kind::Directory, depth);
+        let index = self.rom.entry(name.as_bytes(), FileType::Directory, depth);
         self.rom.descend(index);
         self.list(depth + 1);
         index
@@ -73,9 +75,9 @@ impl Tree {
 
     /// Adds a file, and gives its index.
     fn file(&mut self, name: &str, depth: usize) -> usize {
-        let kind = Kind::RegularFile;
-        let index = self.rom.entry(name.as_bytes(), kind, depth);
-        self.rom.content(self.content).fill(kind as u8);
+        let file_type = FileType::RegularFile;
+        let index = self.rom.entry(name.as_bytes(), file_type, depth);
+        self.rom.content(self.content).fill(file_type as u8);
         index
     }
 }

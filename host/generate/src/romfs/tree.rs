@@ -1,7 +1,9 @@
 //! Allowed romfs images from random trees.
 
-use super::{Random, Rom, RomBuilder};
-use crate::romfs::Kind;
+use reference::romfs::FileType;
+
+use super::builder::{Rom, RomBuilder};
+use crate::Random;
 
 /// What an image is to hold.
 #[derive(Clone, Copy, Debug)]
@@ -29,14 +31,14 @@ impl RomPlan {
 pub fn rom(random: &mut Random, plan: RomPlan) -> Rom {
     let label = label(random);
     let rom = RomBuilder::new(&label);
-    let mut maker = Maker { random, plan, rom };
-    maker.name_noise(16 + label.len());
+    let mut generator = Generator { random, plan, rom };
+    generator.name_noise(16 + label.len());
     if plan.entries > 0 || plan.spine > 1 {
-        maker.list(1, true);
-        maker.gap();
+        generator.list(1, true);
+        generator.gap();
     }
-    maker.aim_links();
-    let mut made = maker.rom.finish();
+    generator.aim_links();
+    let mut made = generator.rom.finish();
     let behind = random.pick(&[0, 0, 0, 1, 15, 16, 64]);
     made.image.extend(random.bytes(behind));
     made
@@ -57,13 +59,13 @@ fn name_length(random: &mut Random) -> usize {
     random.pick(&[1, 1, 2, 3, 6, 14, 15, 16, 17, 31, 32])
 }
 
-struct Maker<'r> {
+struct Generator<'r> {
     random: &'r mut Random,
     plan: RomPlan,
     rom: RomBuilder,
 }
 
-impl Maker<'_> {
+impl Generator<'_> {
     /// Places the entries of one list; one of them carries the spine on if there is more of it.
     fn list(&mut self, depth: usize, on_spine: bool) {
         let carries = on_spine && depth < self.plan.spine;
@@ -89,15 +91,19 @@ impl Maker<'_> {
 
     /// Places an entry, and the lists below it, and gives its index.
     fn entry(&mut self, depth: usize, spine: bool) -> usize {
-        let kind = if spine { Kind::Directory } else { self.kind() };
-        let name = self.name(kind, spine);
-        let size = self.size(kind);
-        let index = self.rom.entry(&name, kind, depth);
+        let file_type = if spine {
+            FileType::Directory
+        } else {
+            self.file_type()
+        };
+        let name = self.name(file_type, spine);
+        let size = self.size(file_type);
+        let index = self.rom.entry(&name, file_type, depth);
         if self.random.one_in(3) {
             self.rom.set_executable(index);
         }
-        if matches!(kind, Kind::BlockDevice | Kind::CharDevice) {
-            self.rom.set_spec(index, self.random.word());
+        if matches!(file_type, FileType::BlockDevice | FileType::CharDevice) {
+            self.rom.set_info(index, self.random.word());
         }
         let header = self.rom.entries[index].at as usize;
         self.name_noise(header + 16 + name.len());
@@ -113,8 +119,8 @@ impl Maker<'_> {
     }
 
     /// A type, links and directories more often than others.
-    fn kind(&mut self) -> Kind {
-        use Kind::*;
+    fn file_type(&mut self) -> FileType {
+        use FileType::*;
         self.random.pick(&[
             HardLink,
             HardLink,
@@ -132,8 +138,8 @@ impl Maker<'_> {
     }
 
     /// A name for an entry, now and then "." or "..", which carry no spine.
-    fn name(&mut self, kind: Kind, spine: bool) -> Vec<u8> {
-        let dot = !spine && kind == Kind::Directory && self.random.one_in(3);
+    fn name(&mut self, file_type: FileType, spine: bool) -> Vec<u8> {
+        let dot = !spine && file_type == FileType::Directory && self.random.one_in(3);
         if dot || (!spine && self.random.one_in(25)) {
             self.random.pick(&[&b"."[..], b".."]).to_vec()
         } else {
@@ -156,8 +162,8 @@ impl Maker<'_> {
     }
 
     /// A length of the content, which is 0 for types that have none.
-    fn size(&mut self, kind: Kind) -> usize {
-        if !kind.has_content() {
+    fn size(&mut self, file_type: FileType) -> usize {
+        if !file_type.has_content() {
             return 0;
         }
         let most = self.plan.content;
@@ -189,12 +195,12 @@ impl Maker<'_> {
         for index in 0..self.rom.entries.len() {
             let entry = &mut self.rom.entries[index];
             if entry.is_dot() {
-                self.rom.set_spec(index, self.random.pick(&all));
-            } else if entry.kind == Kind::HardLink {
+                self.rom.set_info(index, self.random.pick(&all));
+            } else if entry.file_type == FileType::HardLink {
                 match self.random.choose(&targets) {
-                    Some(aim) => self.rom.set_spec(index, aim),
+                    Some(aim) => self.rom.set_info(index, aim),
                     None => {
-                        entry.kind = Kind::Fifo;
+                        entry.file_type = FileType::Fifo;
                         self.rom.image[entry.at as usize + 3] |= 7;
                     }
                 }

@@ -116,12 +116,6 @@ fn map_fault(image: &[u8], n: usize) -> Fault {
     None
 }
 
-struct Seen {
-    kind: usize,
-    spec: usize,
-    dot: bool,
-}
-
 fn words_sum(image: &[u8], from: usize, to: usize) -> usize {
     (from..to)
         .step_by(4)
@@ -162,9 +156,10 @@ pub fn romfs_fault(image: &[u8]) -> Fault {
     let mut offsets: Vec<usize> = seen.keys().copied().collect();
     offsets.sort();
     for p in offsets {
-        let aim = seen.get(&seen[&p].spec);
-        let link = seen[&p].kind == 0 && aim.is_none_or(|other| other.kind == 0);
-        if link || (seen[&p].dot && aim.is_none()) {
+        let header: &Header = &seen[&p];
+        let aim = seen.get(&header.info);
+        let link = header.file_type == 0 && aim.is_none_or(|other| other.file_type == 0);
+        if link || (header.is_dot() && aim.is_none()) {
             return Some((29, p as u32));
         }
     }
@@ -174,10 +169,20 @@ pub fn romfs_fault(image: &[u8]) -> Fault {
 /// A header as it stands in the image, with the offset where its content ends, padded.
 struct Header<'a> {
     next: usize,
-    kind: usize,
-    spec: usize,
+    file_type: usize,
+    info: usize,
     name: &'a [u8],
     end: usize,
+}
+
+impl Header<'_> {
+    fn is_dot(&self) -> bool {
+        self.file_type == 1 && (self.name == b"." || self.name == b"..")
+    }
+
+    fn descends(&self) -> bool {
+        self.file_type == 1 && !self.is_dot() && self.info != 0
+    }
 }
 
 /// Rule 26: the header at `p`, if it is whole and its fields are allowed.
@@ -187,59 +192,55 @@ fn header(image: &[u8], p: usize, bound: usize) -> Option<Header<'_>> {
     }
     let name_end = (p + 16..bound).find(|&at| image[at] == 0)?;
     let name = &image[p + 16..name_end];
-    let (first_word, spec, size) = (number(image, p), number(image, p + 4), number(image, p + 8));
+    let (first_word, info, size) = (number(image, p), number(image, p + 4), number(image, p + 8));
     let data = p + 16 + pad(name.len() + 1);
     let end = data + pad(size);
-    let kind = first_word % 8;
+    let file_type = first_word % 8;
     if end > bound
         || name.is_empty()
         || words_sum(image, p, data) != 0
-        || ([2, 3, 6, 7].contains(&kind) && spec != 0)
-        || (![2, 3].contains(&kind) && size != 0)
+        || ([2, 3, 6, 7].contains(&file_type) && info != 0)
+        || (![2, 3].contains(&file_type) && size != 0)
     {
         return None;
     }
     let next = first_word / 16 * 16;
     Some(Header {
         next,
-        kind,
-        spec,
+        file_type,
+        info,
         name,
         end,
     })
 }
 
 /// Rules 26 to 28 for the list that begins at `p`, and for the lists below it.
-fn walk_list(
-    image: &[u8],
+fn walk_list<'a>(
+    image: &'a [u8],
     p: usize,
     bound: usize,
     depth: usize,
-    seen: &mut HashMap<usize, Seen>,
+    seen: &mut HashMap<usize, Header<'a>>,
 ) -> Result<(), (u32, u32)> {
     let fault = |rule| (rule, p as u32);
+    let header = header(image, p, bound).ok_or(fault(26))?;
     let Header {
-        next,
-        kind,
-        spec,
-        name,
-        end,
-    } = header(image, p, bound).ok_or(fault(26))?;
+        next, info, end, ..
+    } = header;
+    let descends = header.descends();
     if next != 0 && (next < end || next >= bound) {
         return Err(fault(27));
     }
     let own = if next == 0 { bound } else { next };
-    let dot = kind == 1 && (name == b"." || name == b"..");
-    let descends = kind == 1 && !dot && spec != 0;
-    if descends && (!spec.is_multiple_of(16) || spec < end || spec >= own) {
+    if descends && (!info.is_multiple_of(16) || info < end || info >= own) {
         return Err(fault(27));
     }
     if descends && depth == 8 {
         return Err(fault(28));
     }
-    seen.insert(p, Seen { kind, spec, dot });
+    seen.insert(p, header);
     if descends {
-        walk_list(image, spec, own, depth + 1, seen)?;
+        walk_list(image, info, own, depth + 1, seen)?;
     }
     if next != 0 {
         walk_list(image, next, bound, depth, seen)?;

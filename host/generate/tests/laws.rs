@@ -1,8 +1,9 @@
-//! Round trips and laws over random requests on made volumes.
+//! Round trips and laws over random requests on generated volumes.
 
 use std::collections::BTreeMap;
 
-use reference::make::{any_volume, Random, Volume};
+use generate::tfs::{any_volume, Volume};
+use generate::Random;
 use reference::tfs::{check, create, free_bytes, list, open, read, remove, write, Listing};
 
 type Files = BTreeMap<Vec<u8>, Vec<u8>>;

@@ -1,0 +1,14 @@
+//! Requests on generated images together with the answers owed to them.
+
+mod case;
+mod drawn;
+mod romfs;
+mod romfs_arguments;
+mod tfs;
+mod tfs_arguments;
+
+pub use case::{fnv1a, Answer, Case};
+pub use romfs::romfs_cases;
+pub use romfs_arguments::romfs_arguments;
+pub use tfs::tfs_cases;
+pub use tfs_arguments::tfs_arguments;

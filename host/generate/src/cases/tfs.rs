@@ -1,0 +1,201 @@
+//! Cases on TFS volumes.
+
+use reference::request::{Arguments, Request};
+use reference::tfs::{BLOCK_SIZE, LARGEST_FILE, MOST_BLOCKS, SLOTS};
+
+use super::case::Case;
+use super::drawn::Drawn;
+use super::tfs_arguments::{size, tfs_arguments};
+use crate::tfs::{
+    any_volume, damage_volume, damage_volume_twice, scramble_volume, volume, File, Shape, Volume,
+};
+use crate::Random;
+
+const OTHERS: [Request; 8] = [
+    Request::TfsCreate,
+    Request::TfsRead,
+    Request::TfsWrite,
+    Request::TfsRemove,
+    Request::TfsList,
+    Request::TfsOpen,
+    Request::TfsFormat,
+    Request::TfsFree,
+];
+
+/// Draws cases on TFS volumes: a check of every image, other requests on some of them.
+///
+/// Every answer of every request comes up once before the rest is left to chance. Volumes have
+/// 40 blocks at most, but about one in fifty has 129 to 133; with `large` the last few cases
+/// are on a volume of 4096 blocks.
+pub fn tfs_cases(seed: u64, count: usize, large: bool) -> Vec<Case> {
+    let mut drawn = Drawn::new(seed);
+    let last = if large {
+        count.min(OTHERS.len() + 1)
+    } else {
+        0
+    };
+    one_of_each(&mut drawn);
+    while drawn.cases.len() < count - last {
+        let made = next_volume(&mut drawn.random);
+        on_volume(&mut drawn, &made);
+    }
+    drawn.cases.truncate(count - last);
+    if last > 0 {
+        let made = volume(&mut drawn.random, Shape::Scattered, MOST_BLOCKS);
+        drawn.add_plain(Request::TfsCheck, &made.image);
+        (1..last).for_each(|_| other(&mut drawn, &made, &made.image));
+    }
+    drawn.cases
+}
+
+fn next_volume(random: &mut Random) -> Volume {
+    match random.below(100) {
+        0 => {
+            let blocks = random.between(131, 133);
+            volume(random, Shape::Largest, blocks)
+        }
+        1 => {
+            let blocks = random.between(129, 132);
+            volume(random, Shape::Empty, blocks)
+        }
+        2..=5 => {
+            let blocks = random.between(28, 40);
+            volume(random, Shape::Crowded, blocks)
+        }
+        _ => {
+            let most = random.pick(&[6, 12, 24]);
+            any_volume(random, most)
+        }
+    }
+}
+
+/// Adds cases on a volume as it is, or on a damaged copy.
+fn on_volume(drawn: &mut Drawn, made: &Volume) {
+    match damaged(&mut drawn.random, made) {
+        None => {
+            drawn.add_plain(Request::TfsCheck, &made.image);
+            (0..OTHERS.len()).for_each(|_| other(drawn, made, &made.image));
+            if made.files.len() == SLOTS {
+                crowd(drawn, made);
+            }
+        }
+        Some(image) => {
+            drawn.add_plain(Request::TfsCheck, &image);
+            if drawn.random.one_in(3) {
+                other(drawn, made, &image);
+            }
+        }
+    }
+}
+
+/// The image with one fault, with two, with some bytes changed, or noise; nothing if it is to stay.
+fn damaged(random: &mut Random, made: &Volume) -> Option<Vec<u8>> {
+    match random.below(20) {
+        0..=8 => None,
+        9..=13 => {
+            let rule = random.pick(&[1, 2, 3, 4, 4, 5, 5, 6, 6, 6, 7, 7]);
+            damage_volume(random, made, rule).map(|(image, _)| image)
+        }
+        14..=16 => {
+            let rules = [2, 3, 4, 4, 5, 5, 6, 6, 6, 7, 7];
+            let rules = (random.pick(&rules), random.pick(&rules));
+            damage_volume_twice(random, made, rules).map(|(image, _)| image)
+        }
+        17 if random.one_in(3) => {
+            let length = random.below(2000);
+            Some(random.bytes(length))
+        }
+        _ => Some(scramble_volume(random, made)),
+    }
+}
+
+/// Adds a create in a full directory.
+fn crowd(drawn: &mut Drawn, made: &Volume) {
+    let size = size(&mut drawn.random, made);
+    let name = drawn.random.name(9);
+    add(drawn, Request::TfsCreate, size, 0, &name, &made.image);
+}
+
+fn add(drawn: &mut Drawn, request: Request, first: u32, second: u32, name: &[u8], image: &[u8]) {
+    let uses_buffer = matches!(request, Request::TfsRead | Request::TfsWrite);
+    let buffer = drawn.random.bytes(if uses_buffer { 40 } else { 0 });
+    let name = name.to_vec();
+    let arguments = Arguments {
+        first,
+        second,
+        name,
+        buffer,
+    };
+    drawn.add(request, arguments, image);
+}
+
+/// Adds a case for every answer that every request can give on its own.
+fn one_of_each(drawn: &mut Drawn) {
+    let (made, file) = volume_with_content(&mut drawn.random);
+    let image = &made.image;
+    drawn.add_plain(Request::TfsCheck, image);
+    names(drawn, &file, image);
+    transfers(drawn, &file, image);
+    for slot in [file.slot as u32, SLOTS as u32] {
+        add(drawn, Request::TfsList, slot, 0, b"", image);
+    }
+    drawn.add_plain(Request::TfsFree, image);
+    drawn.add_plain(Request::TfsFormat, &image[..3 * BLOCK_SIZE - 1]);
+    let crowded = volume(&mut drawn.random, Shape::Crowded, 28);
+    drawn.add_plain(Request::TfsCheck, &crowded.image);
+    crowd(drawn, &crowded);
+    faults(drawn, &made);
+}
+
+/// A small volume, and a file of it that has a content block.
+fn volume_with_content(random: &mut Random) -> (Volume, File) {
+    loop {
+        let made = volume(random, Shape::Scattered, 9);
+        if let Some(file) = made.files.iter().find(|file| file.size > 0) {
+            let file = file.clone();
+            return (made, file);
+        }
+    }
+}
+
+/// Adds requests with a name that stands, one that does not, and two that are none.
+fn names(drawn: &mut Drawn, file: &File, image: &[u8]) {
+    let names: [&[u8]; 4] = [&file.name, b"some new name", b"", b"sixteen letters."];
+    for name in names {
+        for request in [Request::TfsOpen, Request::TfsRemove, Request::TfsFormat] {
+            add(drawn, request, 0, 0, name, image);
+        }
+        for size in [0, LARGEST_FILE, LARGEST_FILE + 1] {
+            add(drawn, Request::TfsCreate, size, 0, name, image);
+        }
+    }
+}
+
+/// Adds reads and writes at the ends of a file, with its handle and with one that is none.
+fn transfers(drawn: &mut Drawn, file: &File, image: &[u8]) {
+    for request in [Request::TfsRead, Request::TfsWrite] {
+        for offset in [0, file.size, file.size + 1] {
+            add(drawn, request, file.inode, offset, b"", image);
+            add(drawn, request, file.blocks[0], offset, b"", image);
+        }
+    }
+}
+
+/// Adds a check for each of its refusals.
+fn faults(drawn: &mut Drawn, made: &Volume) {
+    for rule in 1..=7 {
+        let damaged = loop {
+            if let Some((damaged, _)) = damage_volume(&mut drawn.random, made, rule) {
+                break damaged;
+            }
+        };
+        drawn.add_plain(Request::TfsCheck, &damaged);
+    }
+}
+
+/// Adds the request whose turn it is.
+fn other(drawn: &mut Drawn, made: &Volume, image: &[u8]) {
+    let request = drawn.turn(&OTHERS);
+    let arguments = tfs_arguments(&mut drawn.random, made, request);
+    drawn.add(request, arguments, image);
+}
