@@ -21,7 +21,7 @@ struct Place {
 }
 
 struct Entry {
-    kind: u32,
+    file_type: u32,
     executable: u32,
     info: u32,
     size: u32,
@@ -76,7 +76,7 @@ fn of_find(a: FindAnswer, length: u32) -> Place {
 
 fn nothing() -> Entry {
     Entry {
-        kind: 1000,
+        file_type: 1000,
         executable: 0,
         info: 0,
         size: 0,
@@ -88,14 +88,14 @@ fn nothing() -> Entry {
 fn of_entry(a: EntryAnswer) -> Entry {
     match a {
         EntryAnswer::Entry {
-            kind,
+            file_type,
             executable,
             info,
             size,
             next,
             name_length,
         } => Entry {
-            kind: kind,
+            file_type: file_type,
             executable: executable,
             info: info,
             size: size,
@@ -108,8 +108,8 @@ fn of_entry(a: EntryAnswer) -> Entry {
 }
 
 // Whether the length request gives the size of a file or a symbolic link, and is refused for the rest.
-fn right_length(a: ContentAnswer, kind: u32, size: u32) -> bool {
-    let data = kind == 2 || kind == 3;
+fn right_length(a: ContentAnswer, file_type: u32, size: u32) -> bool {
+    let data = file_type == 2 || file_type == 3;
     match a {
         ContentAnswer::Length(n) => data && n == size,
         ContentAnswer::Refused(n) => !data && n == 31,
@@ -160,13 +160,13 @@ fn walk(image: &[u8], names: u32) -> Place {
 }
 
 fn expected(length: u32) -> Entry {
-    let kind = packed::number();
+    let file_type = packed::number();
     let executable = packed::number();
     let info = packed::number();
     let size = packed::number();
     let next = packed::number();
     Entry {
-        kind: kind,
+        file_type: file_type,
         executable: executable,
         info: info,
         size: size,
@@ -176,8 +176,8 @@ fn expected(length: u32) -> Entry {
 }
 
 fn same_entry(k: u32, want: Entry, got: Entry) -> bool {
-    if want.kind != got.kind {
-        return difference(k, b": the type", want.kind, got.kind);
+    if want.file_type != got.file_type {
+        return difference(k, b": the type", want.file_type, got.file_type);
     }
     if want.executable != got.executable {
         return difference(k, b": executable", want.executable, got.executable);
@@ -202,7 +202,7 @@ fn same_there(k: u32, image: &[u8], at: u32, want: Entry, content: &[u8]) -> boo
     if !same_entry(k, want, of_entry(romfs::entry(image, at))) {
         return false;
     }
-    if !right_length(romfs::content_length(image, at), want.kind, want.size) {
+    if !right_length(romfs::content_length(image, at), want.file_type, want.size) {
         return difference(k, b": the length of the content", want.size, 0);
     }
     if !spans::search::same(romfs::content(image, at), content) {

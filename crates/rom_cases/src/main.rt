@@ -61,7 +61,7 @@ fn of_find(a: FindAnswer) -> Outcome {
 fn of_entry(a: EntryAnswer) -> Outcome {
     match a {
         EntryAnswer::Entry {
-            kind,
+            file_type,
             executable,
             info,
             size,
@@ -71,7 +71,7 @@ fn of_entry(a: EntryAnswer) -> Outcome {
             refusal: 0,
             place: 0,
             count: 6,
-            values: [kind, executable, info, size, next, name_length],
+            values: [file_type, executable, info, size, next, name_length],
         },
         EntryAnswer::Refused(n) => refused(n, 0),
         EntryAnswer::Inconsistent(f) => of_fault(f),

@@ -10,18 +10,17 @@ use borrow.Author.Tests.{eq-eqb, ne-eqb}
 use lib.ListN.{length, take, drop}
 use lib.Dec.{eqb}
 use Rattle.lists.specs.Lists.{sameList, part}
-use Rattle.romfs_spec.specs.Layout.{fullSize, pad16, firstRoot, nameLength, kind, executable, next, info, size, name, contentAt, afterName, hasData}
-use Rattle.romfs_spec.specs.Rules.{Verdict, accepted}
-use Rattle.romfs_spec.specs.Reached.{along, IsReached}
-use Rattle.romfs_spec.specs.Check.{isReached, check}
-use Rattle.romfs_spec.specs.Answers as answers
-use Rattle.romfs_spec.specs.Answers.{Answer, granted, denied, checked, firstOf, matchFrom, matchIn, isDirectory, found, Entry, entryAt, described, measured, partOf, startOf}
+use Rattle.romfs_spec.specs.Layout.{fullSize, pad16, firstRoot, nameLength, fileType, executable, next, info, size, name, contentAt, afterName, hasData}
+use Rattle.romfs_spec.specs.Check.{Verdict, accepted, isReached, check}
+use Rattle.romfs_proofs.specs.Tested.{along, IsReached}
+use Rattle.romfs_spec.specs.Requests as answers
+use Rattle.romfs_spec.specs.Requests.{Answer, granted, refused, checked, firstOf, matchFrom, matchIn, isDirectory, findStep, Entry, entryAt, entryStep, contentStep, partOf, startOf}
 use Rattle.romfs_proofs.specs.Walked.{volume-of, sound}
 use Rattle.romfs_proofs.specs.Theorems.{check-parts}
 use Rattle.romfs_proofs.specs.Find.{match-yes, match-end, match-next}
 use Rattle.romfs_proofs.specs.Given.{Content}
 use Rattle.romfs_check.specs.Known.{Walked}
-use Rattle.romfs_check.specs.Told.{toldFault}
+use Rattle.romfs_check.specs.Told.{faultTold}
 use Rattle.romfs.specs.Told.{toldUnsound}
 use Rattle.romfs_check.specs.declared.Fault.{Fault}
 use Rattle.romfs_check.specs.declared.Fault.the-variants as fault
@@ -42,7 +41,7 @@ pub in-image : (s : List ℕ) (full : ℕ) (w : Walked s full) (p : ℕ) → IsR
 in-image s full w p r = omega (arith, reach-room s full w p r, w .whole .inside)
 
 module _ {A : Type 0} where
-  pub unsound : (x : Fault) (v : Verdict) (a : Answer A) → toldFault x ≡ v → toldUnsound {A = A} x ≡ checked v a
+  pub unsound : (x : Fault) (v : Verdict) (a : Answer A) → faultTold x ≡ v → toldUnsound {A = A} x ≡ checked v a
   unsound (fault.Volume n) v a e = rw (← e)
   unsound (fault.Header n p) v a e = rw (← e)
 
@@ -59,9 +58,9 @@ module _ (s : List ℕ) (dir : ℕ) where
   unfolding isDirectory
   dir-none z r = rw (ne-eqb dir 0 z, r)
 
-  pub dir-kind : (dir ≡ 0 → ⊥) → isReached s dir ≡ true → (k : ℕ) → k ≡ kind s dir → eqb k 1 ≡ isDirectory s dir
+  pub dir-type : (dir ≡ 0 → ⊥) → isReached s dir ≡ true → (k : ℕ) → k ≡ fileType s dir → eqb k 1 ≡ isDirectory s dir
   unfolding isDirectory
-  dir-kind z r k e = rw (ne-eqb dir 0 z, r, e)
+  dir-type z r k e = rw (ne-eqb dir 0 z, r, e)
 
   pub first-none : dir ≡ 0 → (first full : ℕ) → first ≡ firstRoot s → full ≡ fullSize s → first ≡ full → 0 ≡ firstOf s dir
   unfolding firstOf
@@ -110,61 +109,61 @@ module _ (s : List ℕ) (full : ℕ) (w : Walked s full) (p : ℕ) (r : IsReache
     }
 
 module _ (s want : List ℕ) (dir : ℕ) where
-  pub found-31 : isDirectory s dir ≡ false → denied 31 0 ≡ found s dir want
-  unfolding found
-  found-31 d = rw d
+  pub find-step-31 : isDirectory s dir ≡ false → refused 31 0 ≡ findStep s dir want
+  unfolding findStep
+  find-step-31 d = rw d
 
-  pub found-empty : isDirectory s dir ≡ true → (first : ℕ) → first ≡ firstOf s dir → first ≡ 0 → denied 30 0 ≡ found s dir want
-  unfolding found matchIn
-  found-empty d first e z = rw (d, eq-eqb (firstOf s dir) 0 (sym e ∙ z))
+  pub find-step-empty : isDirectory s dir ≡ true → (first : ℕ) → first ≡ firstOf s dir → first ≡ 0 → refused 30 0 ≡ findStep s dir want
+  unfolding findStep matchIn
+  find-step-empty d first e z = rw (d, eq-eqb (firstOf s dir) 0 (sym e ∙ z))
 
   match-in : (first full at : ℕ) → first ≡ firstOf s dir → (first ≡ 0 → ⊥) → full ≡ fullSize s → at ≡ matchFrom s want full first → at ≡ matchIn s want (firstOf s dir)
   unfolding matchIn
   match-in first full at e z f h = rw (ne-eqb (firstOf s dir) 0 (λ y. z (e ∙ y)), ← e, ← f) h
 
-  pub found-30 : isDirectory s dir ≡ true → (first full at : ℕ) → first ≡ firstOf s dir → (first ≡ 0 → ⊥) → full ≡ fullSize s → at ≡ matchFrom s want full first → at ≡ 0 → denied 30 0 ≡ found s dir want
-  unfolding found
-  found-30 d first full at e z f h y = rw (d, ← match-in first full at e z f h, eq-eqb at 0 y)
+  pub find-step-30 : isDirectory s dir ≡ true → (first full at : ℕ) → first ≡ firstOf s dir → (first ≡ 0 → ⊥) → full ≡ fullSize s → at ≡ matchFrom s want full first → at ≡ 0 → refused 30 0 ≡ findStep s dir want
+  unfolding findStep
+  find-step-30 d first full at e z f h y = rw (d, ← match-in first full at e z f h, eq-eqb at 0 y)
 
-  pub found-at : isDirectory s dir ≡ true → (first full at : ℕ) → first ≡ firstOf s dir → (first ≡ 0 → ⊥) → full ≡ fullSize s → at ≡ matchFrom s want full first → (at ≡ 0 → ⊥) → granted at ≡ found s dir want
-  unfolding found
-  found-at d first full at e z f h y = rw (d, ← match-in first full at e z f h, ne-eqb at 0 y)
+  pub find-step-at : isDirectory s dir ≡ true → (first full at : ℕ) → first ≡ firstOf s dir → (first ≡ 0 → ⊥) → full ≡ fullSize s → at ≡ matchFrom s want full first → (at ≡ 0 → ⊥) → granted at ≡ findStep s dir want
+  unfolding findStep
+  find-step-at d first full at e z f h y = rw (d, ← match-in first full at e z f h, ne-eqb at 0 y)
 
-  pub find-is : (a : Answer ℕ) → a ≡ checked (check s) (found s dir want) → a ≡ answers.find s dir want
+  pub find-is : (a : Answer ℕ) → a ≡ checked (check s) (findStep s dir want) → a ≡ answers.find s dir want
   unfolding answers.find
   find-is a e = e
 
 -- ---- entry and content
 module _ (s : List ℕ) (p : ℕ) where
-  pub described-31 : isReached s p ≡ false → denied 31 0 ≡ described s p
-  unfolding described
-  described-31 r = rw r
+  pub entry-step-31 : isReached s p ≡ false → refused 31 0 ≡ entryStep s p
+  unfolding entryStep
+  entry-step-31 r = rw r
 
-  pub described-as : isReached s p ≡ true → (e : Entry) → e ≡ entryAt s p → granted e ≡ described s p
-  unfolding described
-  described-as r e h = rw (r, h)
+  pub entry-step-as : isReached s p ≡ true → (e : Entry) → e ≡ entryAt s p → granted e ≡ entryStep s p
+  unfolding entryStep
+  entry-step-as r e h = rw (r, h)
 
-  pub entry-is : (a : Answer Entry) → a ≡ checked (check s) (described s p) → a ≡ answers.entry s p
+  pub entry-is : (a : Answer Entry) → a ≡ checked (check s) (entryStep s p) → a ≡ answers.entry s p
   unfolding answers.entry
   entry-is a e = e
 
-  pub entry-fields : (k x i z n l : ℕ) → k ≡ kind s p → x ≡ executable s p → i ≡ info s p → z ≡ size s p → n ≡ next s p → l ≡ nameLength s (p + 16) → _≡_ {A = Entry} (record { type = k; executable = x; info = i; size = z; next = n; nameLength = l }) (entryAt s p)
+  pub entry-fields : (k x i z n l : ℕ) → k ≡ fileType s p → x ≡ executable s p → i ≡ info s p → z ≡ size s p → n ≡ next s p → l ≡ nameLength s (p + 16) → _≡_ {A = Entry} (record { fileType = k; executable = x; info = i; size = z; next = n; nameLength = l }) (entryAt s p)
   unfolding entryAt
-  entry-fields k x i z n l a b c d e f = λ j. record { type = a j; executable = b j; info = c j; size = d j; next = e j; nameLength = f j }
+  entry-fields k x i z n l a b c d e f = λ j. record { fileType = a j; executable = b j; info = c j; size = d j; next = e j; nameLength = f j }
 
-  pub measured-unreached : isReached s p ≡ false → denied 31 0 ≡ measured s p
-  unfolding measured
-  measured-unreached r = rw r
+  pub content-step-unreached : isReached s p ≡ false → refused 31 0 ≡ contentStep s p
+  unfolding contentStep
+  content-step-unreached r = rw r
 
-  pub measured-31 : isReached s p ≡ true → (k : ℕ) → k ≡ kind s p → hasData k ≡ false → denied 31 0 ≡ measured s p
-  unfolding measured
-  measured-31 r k e h = let h₂ = rw e at h in rw (r, h₂)
+  pub content-step-31 : isReached s p ≡ true → (k : ℕ) → k ≡ fileType s p → hasData k ≡ false → refused 31 0 ≡ contentStep s p
+  unfolding contentStep
+  content-step-31 r k e h = let h₂ = rw e at h in rw (r, h₂)
 
-  pub measured-as : isReached s p ≡ true → (k : ℕ) → k ≡ kind s p → hasData k ≡ true → (n : ℕ) → n ≡ size s p → granted n ≡ measured s p
-  unfolding measured
-  measured-as r k e h n f = let h₂ = rw e at h in rw (r, h₂, f)
+  pub content-step-as : isReached s p ≡ true → (k : ℕ) → k ≡ fileType s p → hasData k ≡ true → (n : ℕ) → n ≡ size s p → granted n ≡ contentStep s p
+  unfolding contentStep
+  content-step-as r k e h n f = let h₂ = rw e at h in rw (r, h₂, f)
 
-  pub length-is : (a : Answer ℕ) → a ≡ checked (check s) (measured s p) → a ≡ answers.contentLength s p
+  pub length-is : (a : Answer ℕ) → a ≡ checked (check s) (contentStep s p) → a ≡ answers.contentLength s p
   unfolding answers.contentLength
   length-is a e = e
 

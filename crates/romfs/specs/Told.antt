@@ -3,7 +3,7 @@ use Prim.Native.Nat.{ℕ, _+_, _≤_}
 use mathlib.Core.List.{List}
 use denote.Ref.{RefT}
 use mathlib.Core.Path.{_≡_}
-use Rattle.romfs_spec.specs.Answers.{Answer, granted, denied, Entry}
+use Rattle.romfs_spec.specs.Requests.{Answer, granted, refused, Entry}
 use Rattle.romfs_check.specs.declared.Fault.{Fault}
 use Rattle.romfs_check.specs.declared.Fault.the-variants as fault
 use Rattle.romfs_check.specs.Told.{FaultFits}
@@ -16,23 +16,23 @@ use Rattle.romfs.specs.declared.ContentAnswer.the-variants as contents
 
 -- the refusal of an image, as the answer of another request
 abbrev pub toldUnsound : {A : Type 0} → Fault → Answer A
-toldUnsound (fault.Volume n) = denied n 0
-toldUnsound (fault.Header n p) = denied n p
+toldUnsound (fault.Volume n) = refused n 0
+toldUnsound (fault.Header n p) = refused n p
 
-abbrev pub toldFind : FindAnswer → Answer ℕ
-toldFind (finds.Found p) = granted p
-toldFind (finds.Refused n) = denied n 0
-toldFind (finds.Inconsistent f) = toldUnsound f
+abbrev pub findTold : FindAnswer → Answer ℕ
+findTold (finds.Found p) = granted p
+findTold (finds.Refused n) = refused n 0
+findTold (finds.Inconsistent f) = toldUnsound f
 
-abbrev pub toldEntry : EntryAnswer → Answer Entry
-toldEntry (entries.Entry k x i z n l) = granted (record { type = k; executable = x; info = i; size = z; next = n; nameLength = l })
-toldEntry (entries.Refused n) = denied n 0
-toldEntry (entries.Inconsistent f) = toldUnsound f
+abbrev pub entryTold : EntryAnswer → Answer Entry
+entryTold (entries.Entry k x i z n l) = granted (record { fileType = k; executable = x; info = i; size = z; next = n; nameLength = l })
+entryTold (entries.Refused n) = refused n 0
+entryTold (entries.Inconsistent f) = toldUnsound f
 
-abbrev pub toldContent : ContentAnswer → Answer ℕ
-toldContent (contents.Length n) = granted n
-toldContent (contents.Refused n) = denied n 0
-toldContent (contents.Inconsistent f) = toldUnsound f
+abbrev pub contentTold : ContentAnswer → Answer ℕ
+contentTold (contents.Length n) = granted n
+contentTold (contents.Refused n) = refused n 0
+contentTold (contents.Inconsistent f) = toldUnsound f
 
 -- ---- each case holds the numbers of its own rules: 30 and 31 refuse a request, 21 to 29 an image
 abbrev pub FindFits : FindAnswer → Type 0

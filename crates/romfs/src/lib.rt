@@ -5,15 +5,15 @@ ghost use Prim.Native.Nat.{_+_, _≤_, _<_};
 ghost use lib.ListN.{length};
 ghost use Rattle.lists.specs.Lists.{part};
 ghost use Rattle.romfs_spec.specs.Layout.{contentAt};
-ghost use Rattle.romfs_spec.specs.Rules.{accepted};
-ghost use Rattle.romfs_spec.specs.Reached.{IsReached};
+ghost use Rattle.romfs_spec.specs.Check.{accepted};
+ghost use Rattle.romfs_proofs.specs.Tested.{IsReached};
 ghost use Rattle.romfs_spec.specs.Check as rules;
-ghost use Rattle.romfs_spec.specs.Answers as answers;
-ghost use Rattle.romfs_spec.specs.Answers.{firstOf, isDirectory, matchFrom, found, described, measured};
+ghost use Rattle.romfs_spec.specs.Requests as answers;
+ghost use Rattle.romfs_spec.specs.Requests.{firstOf, isDirectory, matchFrom, findStep, entryStep, contentStep};
 ghost use Rattle.romfs_proofs.specs.Given.{Content};
 ghost use Rattle.romfs_check.specs.Known.{Walked};
-ghost use Rattle.romfs_check.specs.Told.{told, CheckFits};
-ghost use Rattle.romfs.specs.Told.{toldFind, FindFits, toldEntry, EntryFits, toldContent, ContentFits, LiesAt};
+ghost use Rattle.romfs_check.specs.Told.{checkTold, CheckFits};
+ghost use Rattle.romfs.specs.Told.{findTold, FindFits, entryTold, EntryFits, contentTold, ContentFits, LiesAt};
 use romfs_check::CheckAnswer;
 use romfs_check::Fault;
 
@@ -27,7 +27,7 @@ pub enum FindAnswer {
 
 pub enum EntryAnswer {
     Entry {
-        kind: u32,
+        file_type: u32,
         executable: u32,
         info: u32,
         size: u32,
@@ -47,7 +47,7 @@ pub enum ContentAnswer {
 // ---- check
 
 pub fn check(image: &[u8]) -> CheckAnswer
-    ensures { λ r. ⌜ (told r ≡ rules.check (now (image .entry))) × CheckFits r ⌝ }
+    ensures { λ r. ⌜ (checkTold r ≡ rules.check (now (image .entry))) × CheckFits r ⌝ }
 {
     romfs_check::check(image)
 }
@@ -64,7 +64,7 @@ fn is_directory(image: &[u8], full: usize, dir: usize) -> bool
     if !romfs_check::is_reached(image, full, dir) {
         return false;
     }
-    romfs_headers::kind_of(image, dir) == 1
+    romfs_headers::file_type_of(image, dir) == 1
 }
 
 // The first header of a directory's list, or 0. Directory 0 is the root.
@@ -103,7 +103,7 @@ fn match_from(image: &[u8], full: usize, first: usize, name: &[u8]) -> usize
 
 fn find_in(image: &[u8], dir: usize, name: &[u8]) -> FindAnswer
     requires { ⌜ rules.check (now image) ≡ accepted ⌝ }
-    ensures { λ r. ⌜ (toldFind r ≡ found (now (image .entry)) dir (now (name .entry))) × FindFits r ⌝ }
+    ensures { λ r. ⌜ (findTold r ≡ findStep (now (image .entry)) dir (now (name .entry))) × FindFits r ⌝ }
 {
     let full = romfs_headers::full_size(image);
     if !is_directory(image, full, dir) {
@@ -122,7 +122,7 @@ fn find_in(image: &[u8], dir: usize, name: &[u8]) -> FindAnswer
 
 // The header of a name in the list of a directory; 0 is the root list.
 pub fn find(image: &[u8], dir: u32, name: &[u8]) -> FindAnswer
-    ensures { λ r. ⌜ (toldFind r ≡ answers.find (now (image .entry)) dir (now (name .entry))) × FindFits r ⌝ }
+    ensures { λ r. ⌜ (findTold r ≡ answers.find (now (image .entry)) dir (now (name .entry))) × FindFits r ⌝ }
 {
     match romfs_check::check(image) {
         CheckAnswer::Refused(f) => FindAnswer::Inconsistent(f),
@@ -134,14 +134,14 @@ pub fn find(image: &[u8], dir: u32, name: &[u8]) -> FindAnswer
 
 fn entry_at(image: &[u8], at: usize) -> EntryAnswer
     requires { ⌜ rules.check (now image) ≡ accepted ⌝ }
-    ensures { λ r. ⌜ (toldEntry r ≡ described (now (image .entry)) at) × EntryFits r ⌝ }
+    ensures { λ r. ⌜ (entryTold r ≡ entryStep (now (image .entry)) at) × EntryFits r ⌝ }
 {
     let full = romfs_headers::full_size(image);
     if !romfs_check::is_reached(image, full, at) {
         return EntryAnswer::Refused(31);
     }
     EntryAnswer::Entry {
-        kind: romfs_headers::kind_of(image, at) as u32,
+        file_type: romfs_headers::file_type_of(image, at) as u32,
         executable: romfs_headers::executable_of(image, at) as u32,
         info: romfs_headers::info_of(image, at) as u32,
         size: romfs_headers::size_of(image, at) as u32,
@@ -151,7 +151,7 @@ fn entry_at(image: &[u8], at: usize) -> EntryAnswer
 }
 
 pub fn entry(image: &[u8], at: u32) -> EntryAnswer
-    ensures { λ r. ⌜ (toldEntry r ≡ answers.entry (now (image .entry)) at) × EntryFits r ⌝ }
+    ensures { λ r. ⌜ (entryTold r ≡ answers.entry (now (image .entry)) at) × EntryFits r ⌝ }
 {
     match romfs_check::check(image) {
         CheckAnswer::Refused(f) => EntryAnswer::Inconsistent(f),
@@ -163,20 +163,20 @@ pub fn entry(image: &[u8], at: u32) -> EntryAnswer
 
 fn length_at(image: &[u8], at: usize) -> ContentAnswer
     requires { ⌜ rules.check (now image) ≡ accepted ⌝ }
-    ensures { λ r. ⌜ (toldContent r ≡ measured (now (image .entry)) at) × ContentFits r ⌝ }
+    ensures { λ r. ⌜ (contentTold r ≡ contentStep (now (image .entry)) at) × ContentFits r ⌝ }
 {
     let full = romfs_headers::full_size(image);
     if !romfs_check::is_reached(image, full, at) {
         return ContentAnswer::Refused(31);
     }
-    if !romfs_headers::has_data(romfs_headers::kind_of(image, at)) {
+    if !romfs_headers::has_data(romfs_headers::file_type_of(image, at)) {
         return ContentAnswer::Refused(31);
     }
     ContentAnswer::Length(romfs_headers::size_of(image, at) as u32)
 }
 
 pub fn content_length(image: &[u8], at: u32) -> ContentAnswer
-    ensures { λ r. ⌜ (toldContent r ≡ answers.contentLength (now (image .entry)) at) × ContentFits r ⌝ }
+    ensures { λ r. ⌜ (contentTold r ≡ answers.contentLength (now (image .entry)) at) × ContentFits r ⌝ }
 {
     match romfs_check::check(image) {
         CheckAnswer::Refused(f) => ContentAnswer::Inconsistent(f),

@@ -2,9 +2,9 @@
 ghost use mathlib.Core.Path.{_≡_};
 ghost use Rattle.romfs_spec.specs.Layout.{contentAt};
 ghost use Rattle.romfs_spec.specs.Check as rules;
-ghost use Rattle.romfs_spec.specs.Answers as answers;
-ghost use Rattle.romfs_spec.specs.Answers.{checked, granted};
-ghost use Rattle.romfs.specs.Told.{toldUnsound, toldFind, toldEntry, toldContent};
+ghost use Rattle.romfs_spec.specs.Requests as answers;
+ghost use Rattle.romfs_spec.specs.Requests.{checked, granted};
+ghost use Rattle.romfs.specs.Told.{toldUnsound, findTold, entryTold, contentTold};
 ghost use Rattle.romfs_c.specs.Result.{checkedAnswer, resultOf, headerOf, contentOf, Tells, TellsHeader, TellsPart};
 use romfs::ContentAnswer;
 use romfs::EntryAnswer;
@@ -20,17 +20,17 @@ pub struct RomfsResult {
     pub value: u32,
 }
 
-// The refusal and its place; the fields of the entry. The header calls kind type, and namelen name_length.
+// The refusal and its place; the fields of the entry.
 #[repr(C)]
 pub struct RomfsHeader {
     pub refusal: u32,
     pub place: u32,
-    pub kind: u32,
+    pub file_type: u32,
     pub executable: u32,
     pub info: u32,
     pub size: u32,
     pub next: u32,
-    pub namelen: u32,
+    pub name_length: u32,
 }
 
 // The refusal and its place; where the content begins, and its length.
@@ -83,7 +83,7 @@ pub extern "C" fn romfs_check(image: &[u8]) -> RomfsResult
 }
 
 fn of_find(a: FindAnswer) -> RomfsResult
-    ensures { λ r. ⌜ Tells r (toldFind a) ⌝ }
+    ensures { λ r. ⌜ Tells r (findTold a) ⌝ }
 {
     match a {
         FindAnswer::Found(p) => RomfsResult {
@@ -111,17 +111,17 @@ pub extern "C" fn romfs_find(image: &[u8], directory: u32, name: &[u8]) -> Romfs
 // ---- entry
 
 fn no_header(refusal: u32, place: u32) -> RomfsHeader
-    ensures { λ r. ⌜ TellsHeader r (answers.denied refusal place) ⌝ }
+    ensures { λ r. ⌜ TellsHeader r (answers.refused refusal place) ⌝ }
 {
     RomfsHeader {
         refusal: refusal,
         place: place,
-        kind: 0,
+        file_type: 0,
         executable: 0,
         info: 0,
         size: 0,
         next: 0,
-        namelen: 0,
+        name_length: 0,
     }
 }
 
@@ -135,13 +135,13 @@ fn fault_header(f: Fault) -> RomfsHeader
 }
 
 fn of_entry(a: EntryAnswer) -> RomfsHeader
-    ensures { λ r. ⌜ TellsHeader r (toldEntry a) ⌝ }
+    ensures { λ r. ⌜ TellsHeader r (entryTold a) ⌝ }
 {
     match a {
         EntryAnswer::Refused(n) => no_header(n, 0),
         EntryAnswer::Inconsistent(f) => fault_header(f),
         EntryAnswer::Entry {
-            kind,
+            file_type,
             executable,
             info,
             size,
@@ -150,12 +150,12 @@ fn of_entry(a: EntryAnswer) -> RomfsHeader
         } => RomfsHeader {
             refusal: 0,
             place: 0,
-            kind: kind,
+            file_type: file_type,
             executable: executable,
             info: info,
             size: size,
             next: next,
-            namelen: name_length,
+            name_length: name_length,
         },
     }
 }
@@ -190,8 +190,8 @@ fn no_part(f: Fault) -> RomfsPart
 }
 
 fn of_content(image: &[u8], at: u32, a: ContentAnswer) -> RomfsPart
-    requires { ⌜ toldContent a ≡ answers.contentLength (now image) at ⌝ }
-    ensures { λ r. ⌜ TellsPart r (contentAt (now (image .entry)) at) (toldContent a) ⌝ }
+    requires { ⌜ contentTold a ≡ answers.contentLength (now image) at ⌝ }
+    ensures { λ r. ⌜ TellsPart r (contentAt (now (image .entry)) at) (contentTold a) ⌝ }
 {
     match a {
         ContentAnswer::Refused(n) => RomfsPart {

@@ -8,11 +8,10 @@ use native.Mathlib.Omega.{arith}
 use borrow.Author.Tests.{eq-eqb, ne-eqb, lt-ltb, le-ltb, ltb-false}
 use lib.Dec.{ltb, eqb}
 use lib.ListN.{length}
-use Rattle.romfs_spec.specs.Layout.{fullSize, firstRoot, nameLength, nameEnds, wordSum, kind, next, info, own, isDots, hasList}
-use Rattle.romfs_spec.specs.Rules as rules
-use Rattle.romfs_spec.specs.Rules.{Verdict, accepted, refused, short21, magic22, size23, sum24, name25}
-use Rattle.romfs_spec.specs.Reached.{Reached, root, along, inside, IsReached, Sound}
-use Rattle.romfs_spec.specs.Check.{andThen, visitList, visitEntry, visitAll, walk, volume, links, check, leads, towards, seek, isReached, badLink}
+use Rattle.romfs_spec.specs.Layout.{fullSize, firstRoot, nameLength, nameEnds, wordSum, fileType, next, info, own, isDots, hasList}
+use Rattle.romfs_spec.specs.Check as rules
+use Rattle.romfs_spec.specs.Check.{Verdict, accepted, broken, tooShort, badMagic, badFullSize, badVolumeSum, badVolumeName, andThen, visitList, visitEntry, visitAll, walk, volume, links, check, leads, towards, seek, isReached, badLink}
+use Rattle.romfs_proofs.specs.Tested.{Reached, root, along, inside, IsReached, Sound}
 use Rattle.list_laws.specs.Test.{or-no-l, or-no-r}
 use Rattle.romfs_proofs.specs.Facts.{room, ends, next-from, next-to, own-to, first-to, depth-to, fault-sound, fault-number, list-descends, list-first}
 use Rattle.romfs_proofs.specs.Visit.{list-refused, list-last, list-next, entry-refused, entry-leaf, entry-list, entry-test}
@@ -26,7 +25,7 @@ use Rattle.romfs_check.specs.declared.Below.{Below}
 use Rattle.romfs_check.specs.declared.Below.the-variants as below
 use Rattle.romfs_headers.specs.declared.Step.{Step}
 use Rattle.romfs_headers.specs.declared.Step.the-variants as step
-use Rattle.romfs_check.specs.Told.{toldFault}
+use Rattle.romfs_check.specs.Told.{faultTold}
 use Rattle.romfs_check.specs.declared.Fault.{Fault}
 use Rattle.romfs_check.specs.declared.Fault.the-variants as fault
 
@@ -41,7 +40,7 @@ pub rest-all : (s : List ℕ) (test : ℕ → ℕ → ℕ → Verdict) (left bou
 rest-all s test left bound at = record { fuel = bound - at; enough = omega arith; same = refl }
 
 module _ (s : List ℕ) (test : ℕ → ℕ → ℕ → Verdict) (left bound at p : ℕ) (r : Rest s test left bound at p) (h : p < bound) where
-  pub rest-fault : (x : Fault) → toldFault x ≡ visitEntry s test left bound p → toldFault x ≡ visitList s (visitEntry s test left bound) (bound - at) at
+  pub rest-fault : (x : Fault) → faultTold x ≡ visitEntry s test left bound p → faultTold x ≡ visitList s (visitEntry s test left bound) (bound - at) at
   rest-fault (fault.Volume n) e = sym (r .same ∙ list-refused s (visitEntry s test left bound) (r .fuel) p n 0 (omega (arith, r .enough)) (sym e))
   rest-fault (fault.Header n q) e = sym (r .same ∙ list-refused s (visitEntry s test left bound) (r .fuel) p n q (omega (arith, r .enough)) (sym e))
 
@@ -80,7 +79,7 @@ pub step-number : (s : List ℕ) (bound left p n : ℕ) → Reads s bound left p
 step-number s bound left p n r = fault-number s p bound (8 - left) n p r
 
 module _ (s : List ℕ) (bound left p : ℕ) (l : left ≤ 7) where
-  pub step-broken : (n : ℕ) → Reads s bound left p (step.Broken n) → refused n p ≡ visitEntry s (rules.fault s) left bound p
+  pub step-broken : (n : ℕ) → Reads s bound left p (step.Broken n) → broken n p ≡ visitEntry s (rules.fault s) left bound p
   step-broken n r = sym (entry-refused s (rules.fault s) bound p left (8 - left) n p (omega arith) r)
 
   pub step-leaf : Reads s bound left p step.Leaf → accepted ≡ visitEntry s (rules.fault s) left bound p
@@ -103,48 +102,48 @@ module _ (s : List ℕ) (bound left p : ℕ) (l : left ≤ 7) where
 
 -- ---- rules 21 to 25
 module _ (s : List ℕ) where
-  pub volume-21 : length s < 32 → refused 21 0 ≡ volume s
-  unfolding volume short21
+  pub volume-21 : length s < 32 → broken 21 0 ≡ volume s
+  unfolding volume tooShort
   volume-21 a = rw (lt-ltb (length s) 32 a)
 
-  pub volume-22 : 32 ≤ length s → magic22 s ≡ true → refused 22 0 ≡ volume s
-  unfolding volume short21
+  pub volume-22 : 32 ≤ length s → badMagic s ≡ true → broken 22 0 ≡ volume s
+  unfolding volume tooShort
   volume-22 a b = rw (le-ltb (length s) 32 a, b)
 
-  pub volume-23 : 32 ≤ length s → magic22 s ≡ false → size23 s ≡ true → refused 23 0 ≡ volume s
-  unfolding volume short21
+  pub volume-23 : 32 ≤ length s → badMagic s ≡ false → badFullSize s ≡ true → broken 23 0 ≡ volume s
+  unfolding volume tooShort
   volume-23 a b c = rw (le-ltb (length s) 32 a, b, c)
 
-  pub volume-24 : 32 ≤ length s → magic22 s ≡ false → size23 s ≡ false → sum24 s ≡ true → refused 24 0 ≡ volume s
-  unfolding volume short21
+  pub volume-24 : 32 ≤ length s → badMagic s ≡ false → badFullSize s ≡ false → badVolumeSum s ≡ true → broken 24 0 ≡ volume s
+  unfolding volume tooShort
   volume-24 a b c d = rw (le-ltb (length s) 32 a, b, c, d)
 
-  pub volume-25 : 32 ≤ length s → magic22 s ≡ false → size23 s ≡ false → sum24 s ≡ false → name25 s ≡ true → refused 25 0 ≡ volume s
-  unfolding volume short21
+  pub volume-25 : 32 ≤ length s → badMagic s ≡ false → badFullSize s ≡ false → badVolumeSum s ≡ false → badVolumeName s ≡ true → broken 25 0 ≡ volume s
+  unfolding volume tooShort
   volume-25 a b c d e = rw (le-ltb (length s) 32 a, b, c, d, e)
 
-  pub volume-fine : 32 ≤ length s → magic22 s ≡ false → size23 s ≡ false → sum24 s ≡ false → name25 s ≡ false → accepted ≡ volume s
-  unfolding volume short21
+  pub volume-fine : 32 ≤ length s → badMagic s ≡ false → badFullSize s ≡ false → badVolumeSum s ≡ false → badVolumeName s ≡ false → accepted ≡ volume s
+  unfolding volume tooShort
   volume-fine a b c d e = rw (le-ltb (length s) 32 a, b, c, d, e)
 
-  pub size-test : (r : Bool) (full len : ℕ) → r ≡ (ltb full 32 || (ltb len full || not (eqb (full % 16) 0))) → full ≡ fullSize s → len ≡ length s → r ≡ size23 s
-  unfolding size23
+  pub size-test : (r : Bool) (full len : ℕ) → r ≡ (ltb full 32 || (ltb len full || not (eqb (full % 16) 0))) → full ≡ fullSize s → len ≡ length s → r ≡ badFullSize s
+  unfolding badFullSize
   size-test r full len h e f = rw (← e, ← f) h
 
-  pub sum-test : (r m full : ℕ) → r ≡ wordSum s 0 (m / 4) → m ≡ min 512 full → full ≡ fullSize s → not (eqb r 0) ≡ sum24 s
-  unfolding sum24
+  pub sum-test : (r m full : ℕ) → r ≡ wordSum s 0 (m / 4) → m ≡ min 512 full → full ≡ fullSize s → not (eqb r 0) ≡ badVolumeSum s
+  unfolding badVolumeSum
   sum-test r m full h e f = rw (← f, ← e, ← h)
 
-  pub name-bad : (n full : ℕ) → n ≡ nameLength s 16 → full ≡ fullSize s → full ≤ 16 + n → name25 s ≡ true
-  unfolding name25 nameEnds
+  pub name-bad : (n full : ℕ) → n ≡ nameLength s 16 → full ≡ fullSize s → full ≤ 16 + n → badVolumeName s ≡ true
+  unfolding badVolumeName nameEnds
   name-bad n full e f h = rw (← e, ← f, le-ltb (16 + n) full h)
 
-  pub name-fine : (n full : ℕ) → n ≡ nameLength s 16 → full ≡ fullSize s → 16 + n < full → name25 s ≡ false
-  unfolding name25 nameEnds
+  pub name-fine : (n full : ℕ) → n ≡ nameLength s 16 → full ≡ fullSize s → 16 + n < full → badVolumeName s ≡ false
+  unfolding badVolumeName nameEnds
   name-fine n full e f h = rw (← e, ← f, lt-ltb (16 + n) full h)
 
-  pub whole-of : (full : ℕ) → full ≡ fullSize s → full < 4294967296 → size23 s ≡ false → Whole s full × (32 ≤ full)
-  unfolding size23
+  pub whole-of : (full : ℕ) → full ≡ fullSize s → full < 4294967296 → badFullSize s ≡ false → Whole s full × (32 ≤ full)
+  unfolding badFullSize
   whole-of full e l h =
       let rest = or-no-r (ltb (fullSize s) 32) (ltb (length s) (fullSize s) || not (eqb (fullSize s % 16) 0)) h in
       let a : 32 ≤ fullSize s = ltb-false (fullSize s) 32 (or-no-l (ltb (fullSize s) 32) (ltb (length s) (fullSize s) || not (eqb (fullSize s % 16) 0)) h) in
@@ -220,31 +219,31 @@ not-not true = refl
 not-not false = refl
 
 module _ (s : List ℕ) (p to : ℕ) (e : to ≡ info s p) where
-  pub link-hard-none : kind s p ≡ 0 → isReached s to ≡ false → true ≡ badLink s p
+  pub link-hard-none : fileType s p ≡ 0 → isReached s to ≡ false → true ≡ badLink s p
   unfolding badLink
-  link-hard-none k r = let r₂ = rw e at r in rw (r₂, eq-eqb (kind s p) 0 k)
+  link-hard-none k r = let r₂ = rw e at r in rw (r₂, eq-eqb (fileType s p) 0 k)
 
-  pub link-hard : kind s p ≡ 0 → isReached s to ≡ true → eqb (kind s to) 0 ≡ badLink s p
+  pub link-hard : fileType s p ≡ 0 → isReached s to ≡ true → eqb (fileType s to) 0 ≡ badLink s p
   unfolding badLink
   link-hard k r =
       let r₂ = rw e at r in
-      rw (e, r₂, eq-eqb (kind s p) 0 k, ne-eqb (kind s p) 1 (omega arith)) (not-not (eqb (kind s (info s p)) 0))
+      rw (e, r₂, eq-eqb (fileType s p) 0 k, ne-eqb (fileType s p) 1 (omega arith)) (not-not (eqb (fileType s (info s p)) 0))
 
-  pub link-other : (kind s p ≡ 0 → ⊥) → (kind s p ≡ 1 → ⊥) → false ≡ badLink s p
+  pub link-other : (fileType s p ≡ 0 → ⊥) → (fileType s p ≡ 1 → ⊥) → false ≡ badLink s p
   unfolding badLink
-  link-other k l = rw (ne-eqb (kind s p) 0 k, ne-eqb (kind s p) 1 l)
+  link-other k l = rw (ne-eqb (fileType s p) 0 k, ne-eqb (fileType s p) 1 l)
 
-  pub link-named : (kind s p ≡ 0 → ⊥) → isDots s p ≡ false → false ≡ badLink s p
+  pub link-named : (fileType s p ≡ 0 → ⊥) → isDots s p ≡ false → false ≡ badLink s p
   unfolding badLink
-  link-named k d = rw (ne-eqb (kind s p) 0 k, d) (named (eqb (kind s p) 1))
+  link-named k d = rw (ne-eqb (fileType s p) 0 k, d) (named (eqb (fileType s p) 1))
     where
       named : (b : Bool) → false ≡ ((b && false) && not (isReached s (info s p)))
       named true = refl
       named false = refl
 
-  pub link-dots : kind s p ≡ 1 → isDots s p ≡ true → not (isReached s to) ≡ badLink s p
+  pub link-dots : fileType s p ≡ 1 → isDots s p ≡ true → not (isReached s to) ≡ badLink s p
   unfolding badLink
-  link-dots k d = rw (e, d, ne-eqb (kind s p) 0 (omega arith), eq-eqb (kind s p) 1 k)
+  link-dots k d = rw (e, d, ne-eqb (fileType s p) 0 (omega arith), eq-eqb (fileType s p) 1 k)
 
 -- what a test of an offset says of the offset that it is
 pub leads-test : (m want : ℕ) {r t : Bool} {n : ℕ} → r ≡ leads n want → n ≡ m → r ≡ t → leads m want ≡ t
@@ -270,7 +269,7 @@ module _ (s : List ℕ) (full : ℕ) (w : Walked s full) (bound left p : ℕ) (l
   pub here-next : (q : ℕ) → q ≡ next s p → (q ≡ 0 → ⊥) → (p < q) × (q < bound)
   here-next q e z = sound-next s bound (8 - left) p q here-sound e z
 
-  pub link-broken : badLink s p ≡ true → refused 29 p ≡ visitEntry s (linkFault s) left bound p
+  pub link-broken : badLink s p ≡ true → broken 29 p ≡ visitEntry s (linkFault s) left bound p
   unfolding linkFault
   link-broken b = sym (entry-refused s (linkFault s) bound p left (8 - left) 29 p (omega arith) (rw b))
 
@@ -300,7 +299,7 @@ root-reached s first full e f z = rw (e, f) (root (λ y. z (e ∙ y ∙ sym f)))
 
 -- ---- the check
 -- a refusal goes on
-pub refused-on : (x : Fault) (a b : Verdict) → toldFault x ≡ a → toldFault x ≡ andThen a b
+pub refused-on : (x : Fault) (a b : Verdict) → faultTold x ≡ a → faultTold x ≡ andThen a b
 refused-on (fault.Volume n) a b e = rw (← e)
 refused-on (fault.Header n p) a b e = rw (← e)
 

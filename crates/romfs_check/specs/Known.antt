@@ -4,8 +4,7 @@ use mathlib.Core.Path.{_≡_}
 use mathlib.Core.Bool.{true, false}
 use mathlib.Core.List.{List}
 use Rattle.romfs_spec.specs.Layout.{info, own, hasList}
-use Rattle.romfs_spec.specs.Rules.{accepted}
-use Rattle.romfs_spec.specs.Check.{walk}
+use Rattle.romfs_spec.specs.Check.{accepted, walk}
 use Rattle.romfs_proofs.specs.Walked.{Volume}
 use Rattle.romfs_headers.specs.Known.{Whole}
 use Rattle.romfs_check.specs.declared.Below.{Below}

@@ -4,15 +4,14 @@ ghost use mathlib.Core.Bool.{not, _||_};
 ghost use Prim.Native.Nat.{_+_, _-_, _%_, _≤_, _<_, min};
 ghost use lib.Dec.{ltb, eqb};
 ghost use lib.ListN.{length};
-ghost use Rattle.romfs_spec.specs.Rules.{magic22, fault};
-ghost use Rattle.romfs_spec.specs.Check.{volume, visitList, visitEntry, walk, leads, towards, seek, isReached, badLink, links, andThen};
+ghost use Rattle.romfs_spec.specs.Check.{badMagic, fault, volume, visitList, visitEntry, walk, leads, towards, seek, isReached, badLink, links, andThen};
 ghost use Rattle.romfs_spec.specs.Check as rules;
-ghost use Rattle.romfs_spec.specs.Reached.{Reached, IsReached};
+ghost use Rattle.romfs_proofs.specs.Tested.{Reached, IsReached};
 ghost use Rattle.romfs_proofs.specs.Links.{linkFault};
 ghost use Rattle.romfs_proofs.specs.Walked.{Volume};
 ghost use Rattle.romfs_headers.specs.Known.{Whole};
 ghost use Rattle.romfs_check.specs.Known.{Walked, Lies};
-ghost use Rattle.romfs_check.specs.Told.{told, CheckFits};
+ghost use Rattle.romfs_check.specs.Told.{checkTold, CheckFits};
 ghost use Rattle.romfs_check.specs.Marks.{rowOf, markAt, markTo, Marked};
 use romfs_headers::Step;
 
@@ -32,7 +31,7 @@ pub enum CheckAnswer {
 
 fn bad_magic(image: &[u8]) -> bool
     requires { ⌜ 32 ≤ length (now image) ⌝ }
-    ensures { λ r. ⌜ r ≡ magic22 (now (image .entry)) ⌝ }
+    ensures { λ r. ⌜ r ≡ badMagic (now (image .entry)) ⌝ }
 {
     if spans::words::be32(image, 0) != 0x2D726F6D {
         return true;
@@ -60,7 +59,7 @@ fn summed(full: usize) -> usize
 }
 
 fn check_volume(image: &[u8]) -> CheckAnswer
-    ensures { λ r. ⌜ (told r ≡ volume (now (image .entry))) × CheckFits r ⌝ }
+    ensures { λ r. ⌜ (checkTold r ≡ volume (now (image .entry))) × CheckFits r ⌝ }
 {
     if image.len() < 32 {
         return CheckAnswer::Refused(Fault::Volume(21));
@@ -131,7 +130,7 @@ fn walk_list(
     marks: &mut [u32; 2048],
 ) -> CheckAnswer
     requires { ⌜ Whole (now image) full × (at < bound) × (bound ≤ full) × (left ≤ 7) × Reached (now image) at bound (8 - left) × Marked (now image) (now marks) ⌝ }
-    ensures { λ r. ⌜ (told r ≡ visitList (now (image .entry)) (visitEntry (now (image .entry)) (fault (now (image .entry))) left bound) (bound - at) at) × CheckFits r × Marked (now (image .entry)) (now (marks .exit)) ⌝ }
+    ensures { λ r. ⌜ (checkTold r ≡ visitList (now (image .entry)) (visitEntry (now (image .entry)) (fault (now (image .entry))) left bound) (bound - at) at) × CheckFits r × Marked (now (image .entry)) (now (marks .exit)) ⌝ }
 {
     let mut p = at;
     loop {
@@ -160,7 +159,7 @@ fn walk_entry(
     marks: &mut [u32; 2048],
 ) -> CheckAnswer
     requires { ⌜ Whole (now image) full × (p < bound) × (bound ≤ full) × (left ≤ 7) × Reached (now image) p bound (8 - left) × Marked (now image) (now marks) ⌝ }
-    ensures { λ r. ⌜ (told r ≡ visitEntry (now (image .entry)) (fault (now (image .entry))) left bound p) × CheckFits r × Marked (now (image .entry)) (now (marks .exit)) ⌝ }
+    ensures { λ r. ⌜ (checkTold r ≡ visitEntry (now (image .entry)) (fault (now (image .entry))) left bound p) × CheckFits r × Marked (now (image .entry)) (now (marks .exit)) ⌝ }
 {
     mark(full, p, left, marks);
     match romfs_headers::read_entry(image, full, bound, left, p) {
@@ -172,7 +171,7 @@ fn walk_entry(
 
 fn check_walk(image: &[u8], full: usize, marks: &mut [u32; 2048]) -> CheckAnswer
     requires { ⌜ Whole (now image) full × Volume (now image) × Marked (now image) (now marks) ⌝ }
-    ensures { λ r. ⌜ (told r ≡ walk (now (image .entry))) × CheckFits r × Marked (now (image .entry)) (now (marks .exit)) ⌝ }
+    ensures { λ r. ⌜ (checkTold r ≡ walk (now (image .entry))) × CheckFits r × Marked (now (image .entry)) (now (marks .exit)) ⌝ }
 {
     let first = romfs_headers::first_root(image, full);
     if first == full {
@@ -265,13 +264,13 @@ fn bad_link(image: &[u8], full: usize, p: usize, marks: &[u32; 2048]) -> bool
     requires { ⌜ Walked (now image) full × (p + 32 ≤ full) × Marked (now image) (now marks) ⌝ }
     ensures { λ r. ⌜ r ≡ badLink (now (image .entry)) p ⌝ }
 {
-    let k = romfs_headers::kind_of(image, p);
+    let k = romfs_headers::file_type_of(image, p);
     let to = romfs_headers::info_of(image, p);
     if k == 0 {
         if !is_reached_by(image, full, to, marks) {
             return true;
         }
-        return romfs_headers::kind_of(image, to) == 0;
+        return romfs_headers::file_type_of(image, to) == 0;
     }
     if k != 1 {
         return false;
@@ -317,7 +316,7 @@ fn links_list(
     marks: &[u32; 2048],
 ) -> CheckAnswer
     requires { ⌜ Walked (now image) full × (left ≤ 7) × Reached (now image) at bound (8 - left) × Marked (now image) (now marks) ⌝ }
-    ensures { λ r. ⌜ (told r ≡ visitList (now (image .entry)) (visitEntry (now (image .entry)) (linkFault (now (image .entry))) left bound) (bound - at) at) × CheckFits r ⌝ }
+    ensures { λ r. ⌜ (checkTold r ≡ visitList (now (image .entry)) (visitEntry (now (image .entry)) (linkFault (now (image .entry))) left bound) (bound - at) at) × CheckFits r ⌝ }
 {
     let mut p = at;
     loop {
@@ -345,7 +344,7 @@ fn links_entry(
     marks: &[u32; 2048],
 ) -> CheckAnswer
     requires { ⌜ Walked (now image) full × (left ≤ 7) × Reached (now image) p bound (8 - left) × Marked (now image) (now marks) ⌝ }
-    ensures { λ r. ⌜ (told r ≡ visitEntry (now (image .entry)) (linkFault (now (image .entry))) left bound p) × CheckFits r ⌝ }
+    ensures { λ r. ⌜ (checkTold r ≡ visitEntry (now (image .entry)) (linkFault (now (image .entry))) left bound p) × CheckFits r ⌝ }
 {
     if bad_link(image, full, p, marks) {
         return CheckAnswer::Refused(Fault::Header(29, p as u32));
@@ -358,7 +357,7 @@ fn links_entry(
 
 fn check_links(image: &[u8], full: usize, marks: &[u32; 2048]) -> CheckAnswer
     requires { ⌜ Walked (now image) full × Marked (now image) (now marks) ⌝ }
-    ensures { λ r. ⌜ (told r ≡ links (now (image .entry))) × CheckFits r ⌝ }
+    ensures { λ r. ⌜ (checkTold r ≡ links (now (image .entry))) × CheckFits r ⌝ }
 {
     let first = romfs_headers::first_root(image, full);
     if first == full {
@@ -372,7 +371,7 @@ fn check_links(image: &[u8], full: usize, marks: &[u32; 2048]) -> CheckAnswer
 // Rules 26 to 29, of an image whose volume header is right.
 fn check_headers(image: &[u8]) -> CheckAnswer
     requires { ⌜ Volume (now image) ⌝ }
-    ensures { λ r. ⌜ (told r ≡ andThen (walk (now (image .entry))) (links (now (image .entry)))) × CheckFits r ⌝ }
+    ensures { λ r. ⌜ (checkTold r ≡ andThen (walk (now (image .entry))) (links (now (image .entry)))) × CheckFits r ⌝ }
 {
     let full = romfs_headers::full_size(image);
     let mut marks = [0u32; 2048];
@@ -383,7 +382,7 @@ fn check_headers(image: &[u8]) -> CheckAnswer
 }
 
 pub fn check(image: &[u8]) -> CheckAnswer
-    ensures { λ r. ⌜ (told r ≡ rules.check (now (image .entry))) × CheckFits r ⌝ }
+    ensures { λ r. ⌜ (checkTold r ≡ rules.check (now (image .entry))) × CheckFits r ⌝ }
 {
     match check_volume(image) {
         CheckAnswer::Refused(f) => CheckAnswer::Refused(f),

@@ -1,3 +1,4 @@
+pub mod Tested
 pub mod Facts
 pub mod Visit
 pub mod Lowest

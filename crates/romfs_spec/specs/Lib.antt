@@ -1,5 +1,3 @@
 pub mod Layout
-pub mod Rules
-pub mod Reached
 pub mod Check
-pub mod Answers
+pub mod Requests

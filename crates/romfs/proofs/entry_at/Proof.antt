@@ -4,7 +4,7 @@ use mathlib.Core.Path.{_≡_, refl, sym, _∙_}
 use mathlib.Core.Bool.{true}
 use native.Mathlib.Omega.{arith}
 use denote.Ref.{now}
-use Rattle.romfs_spec.specs.Reached.{IsReached}
+use Rattle.romfs_proofs.specs.Tested.{IsReached}
 use Rattle.romfs_spec.specs.Check.{isReached}
 use Rattle.romfs_proofs.specs.Seek.{is-reached}
 use Rattle.romfs_check.specs.Known.{Walked}
@@ -29,10 +29,10 @@ is-reached-requires : tie.Need-is-reached-requires
 is-reached-requires c κs = walked c
 
 returns : tie.Need-returns
-returns c = (answers.described-31 _ _ (sym (c .before .is-reached .ensures) ∙ not-true _ (c .if1 .taken)), refl)
+returns c = (answers.entry-step-31 _ _ (sym (c .before .is-reached .ensures) ∙ not-true _ (c .if1 .taken)), refl)
 
-kind-of-requires : tie.Need-kind-of-requires
-kind-of-requires c κs = answers.in-image _ _ (walked (c .before .before)) _ (reached c)
+file-type-of-requires : tie.Need-file-type-of-requires
+file-type-of-requires c κs = answers.in-image _ _ (walked (c .before .before)) _ (reached c)
 
 executable-of-requires : tie.Need-executable-of-requires
 executable-of-requires c κs = answers.in-image _ _ (walked (c .before .before .before)) _ (reached (c .before))
@@ -58,8 +58,8 @@ name-length-requires c κs =
 
 returns-2 : tie.Need-returns-2
 returns-2 c = (
-  answers.described-as _ _ (found (c .before .before .before .before .before .before)) _
-      (answers.entry-fields _ _ _ _ _ _ _ _ (c .before .before .before .before .before .kind-of .ensures .0)
+  answers.entry-step-as _ _ (found (c .before .before .before .before .before .before)) _
+      (answers.entry-fields _ _ _ _ _ _ _ _ (c .before .before .before .before .before .file-type-of .ensures .0)
       (c .before .before .before .before .executable-of .ensures .0)
       (c .before .before .before .info-of .ensures .0)
       (c .before .before .size-of .ensures .0)
@@ -75,7 +75,7 @@ entry-at-spec =
     full-size-requires
     is-reached-requires
     returns
-    kind-of-requires
+    file-type-of-requires
     (λ c. search needs)
     executable-of-requires
     (λ c. search needs)

@@ -4,8 +4,8 @@ use native.Mathlib.Omega.{arith}
 use mathlib.Core.Path.{_≡_, sym, subst, _∙_}
 use mathlib.Core.Bool.{true}
 use denote.Ref.{now}
-use Rattle.romfs_spec.specs.Reached.{IsReached}
-use Rattle.romfs_spec.specs.Answers.{isDirectory}
+use Rattle.romfs_proofs.specs.Tested.{IsReached}
+use Rattle.romfs_spec.specs.Requests.{isDirectory}
 use Rattle.romfs_proofs.specs.Given.{first-reached}
 use Rattle.romfs_check.specs.Known.{Walked}
 use Rattle.romfs.proofs.Answers as answers
@@ -25,13 +25,13 @@ is-directory-requires : tie.Need-is-directory-requires
 is-directory-requires c κs = walked c
 
 returns : tie.Need-returns
-returns c = (answers.found-31 _ _ _ (sym (c .before .is-directory .ensures) ∙ not-true _ (c .if1 .taken)), omega arith)
+returns c = (answers.find-step-31 _ _ _ (sym (c .before .is-directory .ensures) ∙ not-true _ (c .if1 .taken)), omega arith)
 
 first-of-requires : tie.Need-first-of-requires
 first-of-requires c κs = (walked (c .before .before), directory c)
 
 returns-2 : tie.Need-returns-2
-returns-2 c = (answers.found-empty _ _ _ (directory (c .before .before)) _ (c .before .first-of .ensures) (c .if2 .taken), omega arith)
+returns-2 c = (answers.find-step-empty _ _ _ (directory (c .before .before)) _ (c .before .first-of .ensures) (c .if2 .taken), omega arith)
 
 match-from-requires : tie.Need-match-from-requires
 match-from-requires c κs =
@@ -43,7 +43,7 @@ match-from-requires c κs =
 
 returns-3 : tie.Need-returns-3
 returns-3 c = (
-  answers.found-30 _ _ _ (directory (c .before .before .before .before)) _ _ _ (c .before .before .before .first-of .ensures) (c .before .before .if2 .left)
+  answers.find-step-30 _ _ _ (directory (c .before .before .before .before)) _ _ _ (c .before .before .before .first-of .ensures) (c .before .before .if2 .left)
       (c .before .before .before .before .before .before .full-size .ensures .0)
       (c .before .match-from .ensures .0)
       (c .if3 .taken),
@@ -52,7 +52,7 @@ returns-3 c = (
 
 returns-4 : tie.Need-returns-4
 returns-4 c = (
-  answers.found-at _ _ _ (directory (c .before .before .before .before)) _ _ _ (c .before .before .before .first-of .ensures) (c .before .before .if2 .left)
+  answers.find-step-at _ _ _ (directory (c .before .before .before .before)) _ _ _ (c .before .before .before .first-of .ensures) (c .before .before .if2 .left)
       (c .before .before .before .before .before .before .full-size .ensures .0)
       (c .before .match-from .ensures .0)
       (c .if3 .left),

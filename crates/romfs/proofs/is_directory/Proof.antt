@@ -12,12 +12,12 @@ returns c = answers.dir-root _ _ (c .if1 .taken)
 returns-2 : tie.Need-returns-2
 returns-2 c = answers.dir-none _ _ (c .before .before .if1 .left) (sym (c .before .is-reached .ensures) ∙ not-true _ (c .if2 .taken))
 
-kind-of-requires : tie.Need-kind-of-requires
-kind-of-requires c κs = answers.in-image _ _ (c .before .before .before .before .pre) _ (is-reached _ _ (sym (c .before .is-reached .ensures) ∙ not-false _ (c .if2 .left)))
+file-type-of-requires : tie.Need-file-type-of-requires
+file-type-of-requires c κs = answers.in-image _ _ (c .before .before .before .before .pre) _ (is-reached _ _ (sym (c .before .is-reached .ensures) ∙ not-false _ (c .if2 .left)))
 
 returns-3 : tie.Need-returns-3
-returns-3 c = answers.dir-kind _ _ (c .before .before .before .if1 .left) (sym (c .before .before .is-reached .ensures) ∙ not-false _ (c .before .if2 .left)) _ (c .kind-of .ensures .0)
+returns-3 c = answers.dir-type _ _ (c .before .before .before .if1 .left) (sym (c .before .before .is-reached .ensures) ∙ not-false _ (c .before .if2 .left)) _ (c .file-type-of .ensures .0)
 
 pub is-directory-spec : {M : Type 1} → statement M
 is-directory-spec =
-    tie.close (tie.spec returns (λ c κs. search needs) returns-2 kind-of-requires returns-3)
+    tie.close (tie.spec returns (λ c κs. search needs) returns-2 file-type-of-requires returns-3)

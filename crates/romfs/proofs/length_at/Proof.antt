@@ -23,14 +23,14 @@ is-reached-requires : tie.Need-is-reached-requires
 is-reached-requires c κs = walked c
 
 returns : tie.Need-returns
-returns c = (answers.measured-unreached _ _ (sym (c .before .is-reached .ensures) ∙ not-true _ (c .if1 .taken)), refl)
+returns c = (answers.content-step-unreached _ _ (sym (c .before .is-reached .ensures) ∙ not-true _ (c .if1 .taken)), refl)
 
-kind-of-requires : tie.Need-kind-of-requires
-kind-of-requires c κs = answers.in-image _ _ (walked (c .before .before)) _ (is-reached _ _ (found c))
+file-type-of-requires : tie.Need-file-type-of-requires
+file-type-of-requires c κs = answers.in-image _ _ (walked (c .before .before)) _ (is-reached _ _ (found c))
 
 returns-2 : tie.Need-returns-2
 returns-2 c = (
-  answers.measured-31 _ _ (found (c .before .before .before)) _ (c .before .before .kind-of .ensures .0)
+  answers.content-step-31 _ _ (found (c .before .before .before)) _ (c .before .before .file-type-of .ensures .0)
       (sym (c .before .has-data .ensures) ∙ not-true _ (c .if2 .taken)),
   refl,
 )
@@ -40,7 +40,7 @@ size-of-requires c κs = answers.in-image _ _ (walked (c .before .before .before
 
 returns-3 : tie.Need-returns-3
 returns-3 c = (
-  answers.measured-as _ _ (found (c .before .before .before .before)) _ (c .before .before .before .kind-of .ensures .0)
+  answers.content-step-as _ _ (found (c .before .before .before .before)) _ (c .before .before .before .file-type-of .ensures .0)
       (sym (c .before .before .has-data .ensures) ∙ not-false _ (c .before .if2 .left))
       _
       (c .size-of .ensures .0),
@@ -54,7 +54,7 @@ length-at-spec =
     full-size-requires
     is-reached-requires
     returns
-    kind-of-requires
+    file-type-of-requires
     (λ c κs. search needs)
     returns-2
     size-of-requires

@@ -2,9 +2,9 @@
 use mathlib.Core.Path.{sym, ap, _∙_}
 use denote.Ref.{now}
 use Rattle.romfs_spec.specs.Layout.{contentAt}
-use Rattle.romfs_spec.specs.Answers.{startOf}
+use Rattle.romfs_spec.specs.Requests.{startOf}
 use Rattle.romfs_proofs.specs.Given.{content-in}
-use Rattle.romfs.specs.Told.{toldContent}
+use Rattle.romfs.specs.Told.{contentTold}
 use Rattle.romfs_c.specs.Result.{refusalOf, placeOf, valueOf, part-by, part-none}
 use borrow.Author.Needs.{needs}
 use Rattle.romfs_c.proofs.of_content.Statement.{statement}
@@ -34,7 +34,7 @@ cast-content-start c = search needs
 content-start-requires : tie.Need-content-start-requires
 content-start-requires c κs =
     let start = c .before .before .before .before in
-    content-in _ _ _ (sym (start .pre) ∙ ap toldContent (c .before .a3 .given .1))
+    content-in _ _ _ (sym (start .pre) ∙ ap contentTold (c .before .a3 .given .1))
 
 -- src/lib.rt:165:21
 cast-t11 : tie.Need-cast-t11
@@ -48,17 +48,17 @@ returns c = search needs
 returns-2 : tie.Need-returns-2
 returns-2 c =
     let e = c .before .before .a2 .given in
-    part-by (c .no-part .result) _ (part-none (c .no-part .result) _ (e .0 .0) (c .no-part .ensures)) (ap toldContent (sym (e .1)))
+    part-by (c .no-part .result) _ (part-none (c .no-part .result) _ (e .0 .0) (c .no-part .ensures)) (ap contentTold (sym (e .1)))
 
 -- src/lib.rt:155:1
 returns-3 : tie.Need-returns-3
 returns-3 c =
     let a = c .before .before .before .before .before .args in
     let e = sym (c .before .before .a3 .given .1) in (
-      ap (λ x. refusalOf (toldContent x)) e,
-      ap (λ x. placeOf (toldContent x)) e,
-      c .content-start .ensures .0 ∙ ap (λ x. startOf (contentAt (now (a .image)) (a .at)) (toldContent x)) e,
-      ap (λ x. valueOf (toldContent x)) e,
+      ap (λ x. refusalOf (contentTold x)) e,
+      ap (λ x. placeOf (contentTold x)) e,
+      c .content-start .ensures .0 ∙ ap (λ x. startOf (contentAt (now (a .image)) (a .at)) (contentTold x)) e,
+      ap (λ x. valueOf (contentTold x)) e,
     )
 
 pub of-content-spec : {M : Type 1} → statement M

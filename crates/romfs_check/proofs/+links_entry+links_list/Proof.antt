@@ -5,9 +5,9 @@ use mathlib.Core.Path.{sym, ap, _∙_}
 use native.Mathlib.Omega.{arith}
 use borrow.Fn.Kinds.{In}
 use borrow.Fn.PlainCycle.{Measures, is, falls, and}
-use Rattle.romfs_spec.specs.Reached.{Reached}
+use Rattle.romfs_proofs.specs.Tested.{Reached}
 use Rattle.romfs_proofs.specs.Links.{linkFault}
-use Rattle.romfs_check.specs.Told.{told}
+use Rattle.romfs_check.specs.Told.{checkTold}
 use Rattle.romfs_check.proofs.Laws as laws
 use Rattle.romfs_check.proofs.links_entry.Reads as links-entry
 use Rattle.romfs_check.proofs.links_entry.Kinds as links-entry-kinds
@@ -87,7 +87,7 @@ links-list-returns : (t : ℕ) → links-list-lts.Need-returns (L t) (links-list
 links-list-returns t c =
     let k = c .before .before .before .before .before .before .pre .1 in
     let l = c .before .before .before .before .loop in
-    (laws.rest-fault _ _ _ _ _ _ (l .inv .1) (laws.here-in _ _ (k .0) _ _ _ (k .1) (l .inv .0)) (c .before .f .given .0 .0) (ap told (sym (c .before .f .given .1)) ∙ c .before .before .before .links-entry .ensures .0), fault-fits _ _ (c .before .f .given .1) (c .before .before .before .links-entry .ensures .1))
+    (laws.rest-fault _ _ _ _ _ _ (l .inv .1) (laws.here-in _ _ (k .0) _ _ _ (k .1) (l .inv .0)) (c .before .f .given .0 .0) (ap checkTold (sym (c .before .f .given .1)) ∙ c .before .before .before .links-entry .ensures .0), fault-fits _ _ (c .before .f .given .1) (c .before .before .before .links-entry .ensures .1))
 
 links-list-next-of-requires : (t : ℕ) → links-list-lts.Need-next-of-requires (L t) (links-list-at t) links-list.Post links-list-Inv-loop links-list-μ-loop
 links-list-next-of-requires t c κs =
@@ -99,7 +99,7 @@ links-list-returns-2 : (t : ℕ) → links-list-lts.Need-returns-2 (L t) (links-
 links-list-returns-2 t c =
     let k = c .before .before .before .before .before .before .before .pre .1 in
     let l = c .before .before .before .before .before .loop in
-    (laws.rest-last _ _ _ _ _ _ (l .inv .1) (laws.here-in _ _ (k .0) _ _ _ (k .1) (l .inv .0)) (ap told (sym (c .before .before .enum-told .given .1)) ∙ c .before .before .before .before .links-entry .ensures .0) (sym (c .before .next-of .ensures .0) ∙ c .if1 .taken), tt)
+    (laws.rest-last _ _ _ _ _ _ (l .inv .1) (laws.here-in _ _ (k .0) _ _ _ (k .1) (l .inv .0)) (ap checkTold (sym (c .before .before .enum-told .given .1)) ∙ c .before .before .before .before .links-entry .ensures .0) (sym (c .before .next-of .ensures .0) ∙ c .if1 .taken), tt)
 
 links-list-loop-less : (t : ℕ) → links-list-lts.Need-loop-less (L t) (links-list-at t) links-list.Post links-list-Inv-loop links-list-μ-loop
 links-list-loop-less t c =
@@ -115,7 +115,7 @@ links-list-loop-again t c =
     let e = c .before .next-of .ensures .0 in
     let n = laws.here-next _ _ (k .0) _ _ _ (k .1) (l .inv .0) _ e (c .if1 .left) in (
       laws.reached-next _ _ _ _ (l .inv .0) _ e (c .if1 .left),
-      laws.rest-next _ _ _ _ _ _ (l .inv .1) (laws.here-in _ _ (k .0) _ _ _ (k .1) (l .inv .0)) (ap told (sym (c .before .before .enum-told .given .1)) ∙ c .before .before .before .before .links-entry .ensures .0) _ e (c .if1 .left) (n .0),
+      laws.rest-next _ _ _ _ _ _ (l .inv .1) (laws.here-in _ _ (k .0) _ _ _ (k .1) (l .inv .0)) (ap checkTold (sym (c .before .before .enum-told .given .1)) ∙ c .before .before .before .before .links-entry .ensures .0) _ e (c .if1 .left) (n .0),
     )
 
 pub +links-entry+links-list-spec : {M : Type 1} → statement M

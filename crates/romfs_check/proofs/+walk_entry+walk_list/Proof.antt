@@ -6,9 +6,9 @@ use denote.Ref.{now}
 use native.Mathlib.Omega.{arith}
 use borrow.Fn.Kinds.{In}
 use borrow.Fn.PlainCycle.{Measures, is, falls, and}
-use Rattle.romfs_spec.specs.Rules.{fault}
-use Rattle.romfs_spec.specs.Reached.{Reached}
-use Rattle.romfs_check.specs.Told.{told}
+use Rattle.romfs_spec.specs.Check.{fault}
+use Rattle.romfs_proofs.specs.Tested.{Reached}
+use Rattle.romfs_check.specs.Told.{checkTold}
 use Rattle.romfs_check.specs.Marks.{Marked, marked-at}
 use Rattle.romfs_check.proofs.Laws as laws
 use Rattle.romfs_check.proofs.walk_entry.Reads as walk-entry
@@ -101,22 +101,22 @@ walk-list-returns : (t : ℕ) → walk-list-lts.Need-returns (L t) (walk-list-at
 walk-list-returns t c =
     let l = c .before .before .before .before .before .loop in
     let y = c .before .before .before .walk-entry .ensures in
-    (laws.rest-fault _ _ _ _ _ _ (l .inv .1) (l .inv .0) (c .before .f .given .0 .0) (ap told (sym (c .before .f .given .1)) ∙ y .0), fault-fits _ _ (c .before .f .given .1) (y .1), y .2)
+    (laws.rest-fault _ _ _ _ _ _ (l .inv .1) (l .inv .0) (c .before .f .given .0 .0) (ap checkTold (sym (c .before .f .given .1)) ∙ y .0), fault-fits _ _ (c .before .f .given .1) (y .1), y .2)
 
 walk-list-next-of-requires : (t : ℕ) → walk-list-lts.Need-next-of-requires (L t) (walk-list-at t) walk-list.Post walk-list-Inv-loop walk-list-μ-loop
 walk-list-next-of-requires t c κs =
-    let h = laws.walked-sound _ _ _ _ (c .before .before .before .before .before .before .pre .1 .3) (ap told (sym (c .enum-told .given .1)) ∙ c .before .before .walk-entry .ensures .0) in
+    let h = laws.walked-sound _ _ _ _ (c .before .before .before .before .before .before .pre .1 .3) (ap checkTold (sym (c .enum-told .given .1)) ∙ c .before .before .walk-entry .ensures .0) in
     omega (arith, laws.sound-room _ _ _ _ h)
 
 walk-list-returns-2 : (t : ℕ) → walk-list-lts.Need-returns-2 (L t) (walk-list-at t) walk-list.Post walk-list-Inv-loop walk-list-μ-loop
 walk-list-returns-2 t c =
     let l = c .before .before .before .before .before .before .loop in
     let y = c .before .before .before .before .walk-entry .ensures in
-    (laws.rest-last _ _ _ _ _ _ (l .inv .1) (l .inv .0) (ap told (sym (c .before .before .enum-told .given .1)) ∙ y .0) (sym (c .before .next-of .ensures .0) ∙ c .if1 .taken), tt, y .2)
+    (laws.rest-last _ _ _ _ _ _ (l .inv .1) (l .inv .0) (ap checkTold (sym (c .before .before .enum-told .given .1)) ∙ y .0) (sym (c .before .next-of .ensures .0) ∙ c .if1 .taken), tt, y .2)
 
 walk-list-loop-less : (t : ℕ) → walk-list-lts.Need-loop-less (L t) (walk-list-at t) walk-list.Post walk-list-Inv-loop walk-list-μ-loop
 walk-list-loop-less t c =
-    let h = laws.walked-sound _ _ _ _ (c .before .before .before .before .before .before .before .before .pre .1 .3) (ap told (sym (c .before .before .enum-told .given .1)) ∙ c .before .before .before .before .walk-entry .ensures .0) in
+    let h = laws.walked-sound _ _ _ _ (c .before .before .before .before .before .before .before .before .pre .1 .3) (ap checkTold (sym (c .before .before .enum-told .given .1)) ∙ c .before .before .before .before .walk-entry .ensures .0) in
     let n = sound-next _ _ _ _ _ h (c .before .next-of .ensures .0) (c .if1 .left) in
     omega arith
 
@@ -124,7 +124,7 @@ walk-list-loop-again : (t : ℕ) → walk-list-lts.Need-loop-again (L t) (walk-l
 walk-list-loop-again t c =
     let l = c .before .before .before .before .before .before .loop in
     let y = c .before .before .before .before .walk-entry .ensures in
-    let e = ap told (sym (c .before .before .enum-told .given .1)) ∙ y .0 in
+    let e = ap checkTold (sym (c .before .before .enum-told .given .1)) ∙ y .0 in
     let h = laws.walked-sound _ _ _ _ (c .before .before .before .before .before .before .before .before .pre .1 .3) e in
     let f = c .before .next-of .ensures .0 in
     let n = sound-next _ _ _ _ _ h f (c .if1 .left) in (

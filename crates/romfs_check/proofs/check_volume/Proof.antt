@@ -5,29 +5,29 @@ use Prim.Native.Nat.{_≤_}
 use native.Mathlib.Omega.{arith}
 use lib.Dec.{eqb}
 use denote.Ref.{now}
-use Rattle.romfs_spec.specs.Rules.{magic22, size23, sum24}
+use Rattle.romfs_spec.specs.Check.{badMagic, badFullSize, badVolumeSum}
 use Rattle.romfs_headers.specs.Known.{Whole}
 use Rattle.romfs_check.proofs.Laws as laws
 use Rattle.romfs_check.proofs.check_volume.Statement.{statement}
 use Rattle.romfs_check.proofs.check_volume.Tie as tie
 
 -- ---- what each test found
-magic-fine : (c : tie.Else2) → magic22 (now (c .before .before .before .before .args .image)) ≡ false
+magic-fine : (c : tie.Else2) → badMagic (now (c .before .before .before .before .args .image)) ≡ false
 magic-fine c = sym (c .before .bad-magic .ensures) ∙ c .if2 .left
 
-size-is : (c : tie.After-bad-full) → c .bad-full .result ≡ size23 (now (c .before .before .before .before .before .before .args .image))
+size-is : (c : tie.After-bad-full) → c .bad-full .result ≡ badFullSize (now (c .before .before .before .before .before .before .args .image))
 size-is c = laws.size-test _ _ _ _ (c .bad-full .ensures) (c .before .full-size .ensures .0) refl
 
-size-fine : (c : tie.Else3) → size23 (now (c .before .before .before .before .before .before .before .args .image)) ≡ false
+size-fine : (c : tie.Else3) → badFullSize (now (c .before .before .before .before .before .before .before .args .image)) ≡ false
 size-fine c = sym (size-is (c .before)) ∙ c .if3 .left
 
 whole : (c : tie.Else3) → let full = c .before .before .full-size .result in Whole (now (c .before .before .before .before .before .before .before .args .image)) full × (32 ≤ full)
 whole c = let f = c .before .before .full-size .ensures in laws.whole-of _ _ (f .0) (f .1) (size-fine c)
 
-sum-is : (c : tie.After-sum-words) → not (eqb (c .sum-words .result) 0) ≡ sum24 (now (c .before .before .before .before .before .before .before .before .before .args .image))
+sum-is : (c : tie.After-sum-words) → not (eqb (c .sum-words .result) 0) ≡ badVolumeSum (now (c .before .before .before .before .before .before .before .before .before .args .image))
 sum-is c = laws.sum-test _ _ _ _ (c .sum-words .ensures) (c .before .summed .ensures) (c .before .before .before .before .full-size .ensures .0)
 
-sum-fine : (c : tie.Else4) → sum24 (now (c .before .before .before .before .before .before .before .before .before .before .args .image)) ≡ false
+sum-fine : (c : tie.Else4) → badVolumeSum (now (c .before .before .before .before .before .before .before .before .before .before .args .image)) ≡ false
 sum-fine c = sym (sum-is (c .before)) ∙ laws.zero _ (c .if4 .left)
 
 -- ---- the answers

@@ -1,8 +1,7 @@
 use Rattle.romfs_check.specs.Facts.{full-at-least}
 use mathlib.Core.Path.{_∙_}
 use borrow.Author.Needs.{needs}
-use Rattle.romfs_spec.specs.Check.{walk}
-use Rattle.romfs_spec.specs.Rules.{fault}
+use Rattle.romfs_spec.specs.Check.{walk, fault}
 use Rattle.romfs_check.proofs.Laws as laws
 use Rattle.romfs_check.proofs.check_walk.Statement.{statement}
 use Rattle.romfs_check.proofs.check_walk.Tie as tie

@@ -4,8 +4,8 @@ use mathlib.Core.Path.{_≡_}
 use mathlib.Core.Logic.{_≢_}
 use mathlib.Core.Bool.{true, false}
 use mathlib.Core.List.{List}
-use Rattle.romfs_spec.specs.Layout.{fullSize, firstRoot, kind, next, info, own, isDots, descends}
-use Rattle.romfs_spec.specs.Rules.{short21, magic22, size23, sum24, name25, badHeader, badNesting, tooDeep}
+use Rattle.romfs_spec.specs.Layout.{fullSize, firstRoot, fileType, next, info, own, isDots, descends}
+use Rattle.romfs_spec.specs.Check.{tooShort, badMagic, badFullSize, badVolumeSum, badVolumeName, badHeader, badNesting, tooDeep}
 
 -- a header at p is reached, in a list with its bound and its depth
 pub data Reached (s : List ℕ) : ℕ → ℕ → ℕ → Type 0 where
@@ -30,14 +30,14 @@ pub record Sound (s : List ℕ) (p bound depth : ℕ) : Type 0 where
 
 -- 29 does not hold of a header: a hard link's spec.info is a reached header of another type than 0, that of a directory named "." or ".." is a reached header
 pub record Linked (s : List ℕ) (p : ℕ) : Type 0 where
-  pub hard : kind s p ≡ 0 → IsReached s (info s p) × (kind s (info s p) ≢ 0)
-  pub dots : kind s p ≡ 1 → isDots s p ≡ true → IsReached s (info s p)
+  pub hard : fileType s p ≡ 0 → IsReached s (info s p) × (fileType s (info s p) ≢ 0)
+  pub dots : fileType s p ≡ 1 → isDots s p ≡ true → IsReached s (info s p)
 
 pub record Accepted (s : List ℕ) : Type 0 where
-  pub not21 : short21 s ≡ false
-  pub not22 : magic22 s ≡ false
-  pub not23 : size23 s ≡ false
-  pub not24 : sum24 s ≡ false
-  pub not25 : name25 s ≡ false
+  pub not21 : tooShort s ≡ false
+  pub not22 : badMagic s ≡ false
+  pub not23 : badFullSize s ≡ false
+  pub not24 : badVolumeSum s ≡ false
+  pub not25 : badVolumeName s ≡ false
   pub sound : {p bound depth : ℕ} → Reached s p bound depth → Sound s p bound depth
   pub linked : {p bound depth : ℕ} → Reached s p bound depth → Linked s p

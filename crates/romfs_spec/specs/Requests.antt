@@ -4,19 +4,18 @@ use mathlib.Core.Bool.{Bool, cond, _&&_, _||_}
 use mathlib.Core.List.{List, []}
 use lib.Dec.{eqb}
 use Rattle.lists.specs.Lists.{sameList, part}
-use Rattle.romfs_spec.specs.Layout.{fullSize, firstRoot, nameLength, kind, executable, next, info, size, name, contentAt, hasData}
-use Rattle.romfs_spec.specs.Rules.{Verdict, accepted, refused}
-use Rattle.romfs_spec.specs.Check.{isReached, check}
+use Rattle.romfs_spec.specs.Layout.{fullSize, firstRoot, nameLength, fileType, executable, next, info, size, name, contentAt, hasData}
+use Rattle.romfs_spec.specs.Check.{Verdict, accepted, broken, isReached, check}
 
 pub data Answer (A : Type 0) : Type 0 where
   granted : A → Answer A
   -- number and place
-  denied : ℕ → ℕ → Answer A
+  refused : ℕ → ℕ → Answer A
 
 -- Each other request checks the image first, and gives its refusal.
 abbrev pub checked : {A : Type 0} → Verdict → Answer A → Answer A
 checked accepted a = a
-checked (refused n p) a = denied n p
+checked (broken n p) a = refused n p
 
 -- ---- find
 -- what a directory's first-header word leads to; 0 is the root list
@@ -37,21 +36,21 @@ matchIn s want first =
     cond (eqb first 0) 0 at
 
 unfoldable pub isDirectory : List ℕ → ℕ → Bool
-isDirectory s dir = eqb dir 0 || (isReached s dir && eqb (kind s dir) 1)
+isDirectory s dir = eqb dir 0 || (isReached s dir && eqb (fileType s dir) 1)
 
 -- the first match's header offset; 31: not a reached header or not a directory; 30: name not in that list
-unfoldable pub found : List ℕ → ℕ → List ℕ → Answer ℕ
-found s dir want =
+unfoldable pub findStep : List ℕ → ℕ → List ℕ → Answer ℕ
+findStep s dir want =
     let at : ℕ = matchIn s want (firstOf s dir) in
-    let answer : Answer ℕ = cond (eqb at 0) (denied 30 0) (granted at) in
-    cond (isDirectory s dir) answer (denied 31 0)
+    let answer : Answer ℕ = cond (eqb at 0) (refused 30 0) (granted at) in
+    cond (isDirectory s dir) answer (refused 31 0)
 
 unfoldable pub find : List ℕ → ℕ → List ℕ → Answer ℕ
-find s dir want = let a : Answer ℕ = found s dir want in checked (check s) a
+find s dir want = let a : Answer ℕ = findStep s dir want in checked (check s) a
 
 -- ---- entry
 pub record Entry : Type 0 where
-  pub type : ℕ
+  pub fileType : ℕ
   pub executable : ℕ
   pub info : ℕ
   pub size : ℕ
@@ -61,7 +60,7 @@ pub record Entry : Type 0 where
 -- type, executable, spec.info, size, next and name length
 unfoldable pub entryAt : List ℕ → ℕ → Entry
 entryAt s p = record {
-  type = kind s p;
+  fileType = fileType s p;
   executable = executable s p;
   info = info s p;
   size = size s p;
@@ -70,23 +69,23 @@ entryAt s p = record {
 }
 
 -- 31: not a reached header
-unfoldable pub described : List ℕ → ℕ → Answer Entry
-described s p = cond (isReached s p) (granted (entryAt s p)) (denied 31 0)
+unfoldable pub entryStep : List ℕ → ℕ → Answer Entry
+entryStep s p = cond (isReached s p) (granted (entryAt s p)) (refused 31 0)
 
 unfoldable pub entry : List ℕ → ℕ → Answer Entry
-entry s p = let a : Answer Entry = described s p in checked (check s) a
+entry s p = let a : Answer Entry = entryStep s p in checked (check s) a
 
 -- ---- content
 -- the length; 31: not a reached header, or not type 2 or 3
-unfoldable pub measured : List ℕ → ℕ → Answer ℕ
-measured s p = cond (isReached s p && hasData (kind s p)) (granted (size s p)) (denied 31 0)
+unfoldable pub contentStep : List ℕ → ℕ → Answer ℕ
+contentStep s p = cond (isReached s p && hasData (fileType s p)) (granted (size s p)) (refused 31 0)
 
 unfoldable pub contentLength : List ℕ → ℕ → Answer ℕ
-contentLength s p = let a : Answer ℕ = measured s p in checked (check s) a
+contentLength s p = let a : Answer ℕ = contentStep s p in checked (check s) a
 
 abbrev pub partOf : List ℕ → ℕ → Answer ℕ → List ℕ
 partOf s at (granted n) = part at n s
-partOf s at (denied n p) = []
+partOf s at (refused n p) = []
 
 -- that part of the image; an empty part where it is refused
 unfoldable pub content : List ℕ → ℕ → List ℕ
@@ -95,7 +94,7 @@ content s p = partOf s (contentAt s p) (contentLength s p)
 -- where that part begins: at the padded name's end; at 0 where it is refused
 abbrev pub startOf : ℕ → Answer ℕ → ℕ
 startOf at (granted n) = at
-startOf at (denied n p) = 0
+startOf at (refused n p) = 0
 
 unfoldable pub contentStart : List ℕ → ℕ → ℕ
 contentStart s p = startOf (contentAt s p) (contentLength s p)
