@@ -33,10 +33,7 @@ fn bad_magic(image: &[u8]) -> bool
     requires { ⌜ 32 ≤ length (now image) ⌝ }
     ensures { λ r. ⌜ r ≡ badMagic (now (image .entry)) ⌝ }
 {
-    if spans::words::be32(image, 0) != 0x2D726F6D {
-        return true;
-    }
-    spans::words::be32(image, 4) != 0x3166732D
+    !romfs_headers::name_is(image, 0, 8, b"-rom1fs-")
 }
 
 fn bad_full(full: usize, len: usize) -> bool

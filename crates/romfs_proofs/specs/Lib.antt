@@ -8,6 +8,8 @@ pub mod Links
 pub mod Theorems
 pub mod Given
 pub mod Find
+pub mod Plain
+pub mod Checked
 pub mod Answered
 pub mod Past
-pub mod Means
+pub mod Proved

@@ -24,21 +24,13 @@ use Rattle.romfs_proofs.specs.Visit.{entry-test}
 use Rattle.romfs_proofs.specs.Walked.{Volume, volume-of, full-16, root-in, reached-room}
 use Rattle.romfs_proofs.specs.Seek.{is-reached, towards-reached}
 use Rattle.romfs_proofs.specs.Theorems.{check-parts}
+use Rattle.romfs_spec.specs.Statements.{SameFull, SameAnswers}
+use Rattle.romfs_proofs.specs.Plain.{full-is}
 use Rattle.romfs_proofs.specs.Given.{dir-is, first-reached, content-in}
 
--- t holds the same first F bytes as s. Where F is under 32, which 23 refuses, the first 32 are the same, for F itself stands in them.
-abbrev pub SameFull : List ℕ → List ℕ → Type 0
-SameFull s t = take (max 32 (fullSize s)) t ≡ take (max 32 (fullSize s)) s
-
--- every request on t answers as on s
-pub record SameAnswers (s t : List ℕ) : Type 0 where
-  pub checks : check t ≡ check s
-  pub finds : (dir : ℕ) (want : List ℕ) → find t dir want ≡ find s dir want
-  pub entries : (p : ℕ) → entry t p ≡ entry s p
-  pub lengths : (p : ℕ) → contentLength t p ≡ contentLength s p
-  pub contents : (p : ℕ) → content t p ≡ content s p
-  -- where the content begins
-  pub starts : (p : ℕ) → contentStart t p ≡ contentStart s p
+-- t holds the same first F bytes as s, by fullSize
+abbrev Same : List ℕ → List ℕ → Type 0
+Same s t = take (max 32 (fullSize s)) t ≡ take (max 32 (fullSize s)) s
 
 -- ---- what a test keeps out need not be the same
 cond-then {ℓ} : {X : Type ℓ} (b : Bool) (x y z : X) → (b ≡ true → x ≡ y) → cond b x z ≡ cond b y z
@@ -83,7 +75,7 @@ root-16 : (s : List ℕ) → firstRoot s % 16 ≡ 0
 unfolding firstRoot afterName
 root-16 s = omega arith
 
-module _ (s t : List ℕ) (same : SameFull s t) where
+module _ (s t : List ℕ) (same : Same s t) where
   -- ---- bytes, words and names below F
   byte : (i : ℕ) → i < max 32 (fullSize s) → getD t i 0 ≡ getD s i 0
   byte i h =
@@ -106,7 +98,7 @@ module _ (s t : List ℕ) (same : SameFull s t) where
   sum-at p zero h = refl
   sum-at p (suc n) h = rw (sum-at p n (omega arith), word-at (p + 4 * n) (omega arith))
 
-  part-at : (a n : ℕ) → a + n ≤ fullSize s → part a n t ≡ part a n s
+  part-at : (a n : ℕ) → a + n ≤ max 32 (fullSize s) → part a n t ≡ part a n s
   part-at a n h =
       sym (part-take (max 32 (fullSize s)) a n t (omega arith))
       ∙ ap (part a n) same
@@ -145,7 +137,7 @@ module _ (s t : List ℕ) (same : SameFull s t) where
   volume-same : volume t ≡ volume s
   unfolding volume tooShort badMagic badFullSize badVolumeSum badVolumeName
   volume-same =
-      rw (less-at 32 (omega arith), word-at 0 (omega arith), word-at 4 (omega arith), full, less-at (fullSize s) (omega arith), sum-at 0 (min 512 (fullSize s) / 4) (omega arith), name-ends 16)
+      rw (less-at 32 (omega arith), part-at 0 8 (omega arith), full, less-at (fullSize s) (omega arith), sum-at 0 (min 512 (fullSize s) / 4) (omega arith), name-ends 16)
 
   -- ---- a header inside F
   module _ (p : ℕ) (fits : p + 16 ≤ fullSize s) where
@@ -370,7 +362,7 @@ module _ (s t : List ℕ) (same : SameFull s t) where
   content-same p = rw (content-at p, length-same p) (go (contentLength s p) (λ n e. content-in s p n e .inside))
     where
       go : (x : Answer ℕ) → ((n : ℕ) → x ≡ granted n → contentAt s p + n ≤ fullSize s) → partOf t (contentAt s p) x ≡ partOf s (contentAt s p) x
-      go (granted n) h = part-at (contentAt s p) n (h n refl)
+      go (granted n) h = part-at (contentAt s p) n (omega (arith, h n refl))
       go (refused n q) h = refl
 
   start-same : (p : ℕ) → contentStart t p ≡ contentStart s p
@@ -380,7 +372,8 @@ module _ (s t : List ℕ) (same : SameFull s t) where
 -- No answer depends on the bytes past F, whether the image is accepted or refused.
 pub past-full : (s t : List ℕ) → SameFull s t → SameAnswers s t
 unfolding find entry
-past-full s t same =
+past-full s t given =
+    let same : Same s t = rw (full-is s) given in
     record {
       checks = check-same s t same;
       finds = λ dir want. rw (check-same s t same) (checked-then (check s) _ _ (found-same s t same dir want));

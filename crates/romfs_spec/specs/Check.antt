@@ -1,10 +1,10 @@
 -- Rules 21 to 29 and the check: 21 to 25, the walk with 26 to 28, then 29.
 use Prim.Native.Nat.{ℕ, zero, suc, _+_, _-_, _/_, _%_, min}
 use mathlib.Core.Bool.{Bool, true, false, not, cond, _&&_, _||_}
-use mathlib.Core.List.{List}
+use mathlib.Core.List.{List, [], _∷_}
 use lib.ListN.{length}
 use lib.Dec.{leb, ltb, eqb}
-use Rattle.lists.specs.Lists.{least, word}
+use Rattle.lists.specs.Lists.{sameList, least, part}
 use Rattle.romfs_spec.specs.Layout.{fullSize, nameLength, nameEnds, firstRoot, fileType, next, info, size, contentAt, endOf, own, isDots, descends, hasList, hasData, wordSum}
 
 pub data Verdict : Type 0 where
@@ -18,7 +18,7 @@ tooShort s = ltb (length s) 32
 
 -- 22: first eight bytes are not "-rom1fs-"
 unfoldable pub badMagic : List ℕ → Bool
-badMagic s = not (eqb (word s 0) 0x2D726F6D && eqb (word s 4) 0x3166732D)
+badMagic s = not (sameList (part 0 8 s) (0x2D ∷ 0x72 ∷ 0x6F ∷ 0x6D ∷ 0x31 ∷ 0x66 ∷ 0x73 ∷ 0x2D ∷ []))
 
 -- 23: F under 32, over the slice, or no multiple of 16
 unfoldable pub badFullSize : List ℕ → Bool
