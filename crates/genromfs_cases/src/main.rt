@@ -1,11 +1,11 @@
 // Runs images that genromfs made through the romfs requests: each is accepted or refused as expected, and each path of the input
 // leads to the expected header, entry and content. host/romfs_images.sh makes the input and says what its form is.
 use libc::STDOUT_FILENO;
+use romfs::CheckAnswer;
 use romfs::ContentAnswer;
 use romfs::EntryAnswer;
+use romfs::Fault;
 use romfs::FindAnswer;
-use romfs_check::CheckAnswer;
-use romfs_check::Fault;
 
 // A refusal with its place.
 struct Verdict {

@@ -2,11 +2,11 @@
 // the hash of the image. One line for each case that differs, then the counts. The input is that of host/reference:
 // pack romfs crates/rom_cases/stdin --seed 1 --cases 1000
 use libc::STDOUT_FILENO;
+use romfs::CheckAnswer;
 use romfs::ContentAnswer;
 use romfs::EntryAnswer;
+use romfs::Fault;
 use romfs::FindAnswer;
-use romfs_check::CheckAnswer;
-use romfs_check::Fault;
 
 // A refusal with its place, or values.
 struct Outcome {

@@ -1,13 +1,12 @@
 -- What a result of the C interface tells: an answer of the rules, as numbers.
 use Prim.Native.Nat.{ℕ}
 use mathlib.Core.Path.{_≡_, refl, ap, subst, _∙_}
-use Rattle.romfs_spec.specs.Requests.{Answer, granted, refused, Entry, checked, startOf}
-use Rattle.romfs_check.specs.declared.Fault.{Fault}
-use Rattle.romfs_check.specs.declared.Fault.the-variants as fault
-use Rattle.romfs_check.specs.declared.CheckAnswer.{CheckAnswer}
-use Rattle.romfs_check.specs.declared.CheckAnswer.the-variants as checks
-use Rattle.romfs_check.specs.Told.{checkTold}
-use Rattle.romfs.specs.Told.{toldUnsound}
+use Rattle.romfs_spec.specs.Requests.{Answer, granted, refused, Entry, checked}
+use Rattle.romfs.specs.declared.Fault.{Fault}
+use Rattle.romfs.specs.declared.Fault.the-variants as fault
+use Rattle.romfs.specs.declared.CheckAnswer.{CheckAnswer}
+use Rattle.romfs.specs.declared.CheckAnswer.the-variants as checks
+use Rattle.romfs.specs.Told.{checkTold, faultAnswer}
 use Rattle.romfs_c.specs.declared.RomfsResult.{RomfsResult}
 use Rattle.romfs_c.specs.declared.RomfsHeader.{RomfsHeader}
 use Rattle.romfs_c.specs.declared.RomfsPart.{RomfsPart}
@@ -60,16 +59,16 @@ TellsHeader r a =
 
 -- ---- content: where it begins and how long it is, or 0 and 0
 abbrev pub contentOf : ℕ → Answer ℕ → RomfsPart
-contentOf start a = record { refusal = refusalOf a; place = placeOf a; offset = startOf start a; length = valueOf a }
+contentOf start a = record { refusal = refusalOf a; place = placeOf a; offset = start; length = valueOf a }
 
 abbrev pub TellsPart : RomfsPart → ℕ → Answer ℕ → Type 0
 TellsPart r start a =
-    (r .refusal ≡ refusalOf a) × (r .place ≡ placeOf a) × (r .offset ≡ startOf start a) × (r .length ≡ valueOf a)
+    (r .refusal ≡ refusalOf a) × (r .place ≡ placeOf a) × (r .offset ≡ start) × (r .length ≡ valueOf a)
 
 -- ---- the check's own answer: nothing but the grant
 abbrev pub checkedAnswer : CheckAnswer → Answer ℕ
 checkedAnswer checks.Accepted = granted 0
-checkedAnswer (checks.Refused f) = toldUnsound f
+checkedAnswer (checks.Refused f) = faultAnswer f
 
 pub checked-is : (c : CheckAnswer) → checkedAnswer c ≡ checked (checkTold c) (granted 0)
 checked-is checks.Accepted = refl
@@ -83,20 +82,10 @@ result-is r {a} t e = let whole : r ≡ resultOf a = λ i. record { refusal = t 
 pub header-by : (r : RomfsHeader) {a b : Answer Entry} → TellsHeader r a → a ≡ b → TellsHeader r b
 header-by r t e = subst (λ x. TellsHeader r x) e t
 
-pub part-by : (r : RomfsPart) (start : ℕ) {a b : Answer ℕ} → TellsPart r start a → a ≡ b → TellsPart r start b
-part-by r start t e = subst (λ x. TellsPart r start x) e t
-
--- a refused content begins nowhere
-pub part-none : (r : RomfsPart) (start : ℕ) (f : Fault) → TellsPart r 0 (toldUnsound f) → TellsPart r start (toldUnsound f)
-part-none r start (fault.Volume n) t = t
-part-none r start (fault.Header n p) t = t
-
 pub header-is : (r : RomfsHeader) {a b : Answer Entry} → TellsHeader r a → a ≡ b → r ≡ headerOf b
 header-is r {a} t e =
     let whole : r ≡ headerOf a = λ i. record { refusal = t .0 i; place = t .1 i; «file_type» = t .2 i; executable = t .3 i; info = t .4 i; size = t .5 i; next = t .6 i; «name_length» = t .7 i } in
     whole ∙ ap headerOf e
 
-pub part-is : (r : RomfsPart) (start : ℕ) {a b : Answer ℕ} → TellsPart r start a → a ≡ b → r ≡ contentOf start b
-part-is r start {a} t e =
-    let whole : r ≡ contentOf start a = λ i. record { refusal = t .0 i; place = t .1 i; offset = t .2 i; length = t .3 i } in
-    whole ∙ ap (contentOf start) e
+pub part-is : (r : RomfsPart) {x y : ℕ} {a b : Answer ℕ} → TellsPart r x a → x ≡ y → a ≡ b → r ≡ contentOf y b
+part-is r t e f = λ i. record { refusal = (t .0 ∙ ap refusalOf f) i; place = (t .1 ∙ ap placeOf f) i; offset = (t .2 ∙ e) i; length = (t .3 ∙ ap valueOf f) i }

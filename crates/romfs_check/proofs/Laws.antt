@@ -13,7 +13,7 @@ use Rattle.romfs_spec.specs.Check as rules
 use Rattle.romfs_spec.specs.Check.{Verdict, accepted, broken, tooShort, badMagic, badFullSize, badVolumeSum, badVolumeName, andThen, visitList, visitEntry, visitAll, walk, volume, links, check, leads, towards, seek, isReached, badLink}
 use Rattle.romfs_proofs.specs.Tested.{Reached, root, along, inside, IsReached, Sound}
 use Rattle.list_laws.specs.Test.{or-no-l, or-no-r}
-use Rattle.romfs_proofs.specs.Facts.{room, ends, next-from, next-to, own-to, first-to, depth-to, fault-sound, fault-number, list-descends, list-first}
+use Rattle.romfs_proofs.specs.Facts.{room, ends, next-from, next-to, own-to, first-to, depth-to, fault-sound, list-descends, list-first}
 use Rattle.romfs_proofs.specs.Visit.{list-refused, list-last, list-next, entry-refused, entry-leaf, entry-list, entry-test}
 use Rattle.romfs_proofs.specs.Walked.{Volume, full-from, full-to, root-to, visit-none, visit-root, sound, reached-in, reached-room}
 use Rattle.romfs_proofs.specs.Links.{linkFault}
@@ -25,9 +25,6 @@ use Rattle.romfs_check.specs.declared.Below.{Below}
 use Rattle.romfs_check.specs.declared.Below.the-variants as below
 use Rattle.romfs_headers.specs.declared.Step.{Step}
 use Rattle.romfs_headers.specs.declared.Step.the-variants as step
-use Rattle.romfs_check.specs.Told.{faultTold}
-use Rattle.romfs_check.specs.declared.Fault.{Fault}
-use Rattle.romfs_check.specs.declared.Fault.the-variants as fault
 
 -- ---- the walk
 -- the list from at on is what is left of it from p on, at some fuel that is enough
@@ -40,9 +37,8 @@ pub rest-all : (s : List ℕ) (test : ℕ → ℕ → ℕ → Verdict) (left bou
 rest-all s test left bound at = record { fuel = bound - at; enough = omega arith; same = refl }
 
 module _ (s : List ℕ) (test : ℕ → ℕ → ℕ → Verdict) (left bound at p : ℕ) (r : Rest s test left bound at p) (h : p < bound) where
-  pub rest-fault : (x : Fault) → faultTold x ≡ visitEntry s test left bound p → faultTold x ≡ visitList s (visitEntry s test left bound) (bound - at) at
-  rest-fault (fault.Volume n) e = sym (r .same ∙ list-refused s (visitEntry s test left bound) (r .fuel) p n 0 (omega (arith, r .enough)) (sym e))
-  rest-fault (fault.Header n q) e = sym (r .same ∙ list-refused s (visitEntry s test left bound) (r .fuel) p n q (omega (arith, r .enough)) (sym e))
+  pub rest-fault : (n q : ℕ) → broken n q ≡ visitEntry s test left bound p → broken n q ≡ visitList s (visitEntry s test left bound) (bound - at) at
+  rest-fault n q e = sym (r .same ∙ list-refused s (visitEntry s test left bound) (r .fuel) p n q (omega (arith, r .enough)) (sym e))
 
   pub rest-last : accepted ≡ visitEntry s test left bound p → next s p ≡ 0 → accepted ≡ visitList s (visitEntry s test left bound) (bound - at) at
   rest-last e z = sym (r .same ∙ list-last s (visitEntry s test left bound) (r .fuel) p (omega (arith, r .enough)) (sym e) z)
@@ -74,9 +70,6 @@ reached-below s bound left p l m r f o t e g =
 -- ---- a step
 pub reads-of : (s : List ℕ) (bound left p : ℕ) {a b : Step} → a ≡ b → a ≡ stepOf s bound left p → Reads s bound left p b
 reads-of s bound left p {a} {b} e h = step-reads s bound left p b (sym e ∙ h)
-
-pub step-number : (s : List ℕ) (bound left p n : ℕ) → Reads s bound left p (step.Broken n) → (26 ≤ n) × (n ≤ 28)
-step-number s bound left p n r = fault-number s p bound (8 - left) n p r
 
 module _ (s : List ℕ) (bound left p : ℕ) (l : left ≤ 7) where
   pub step-broken : (n : ℕ) → Reads s bound left p (step.Broken n) → broken n p ≡ visitEntry s (rules.fault s) left bound p
@@ -299,9 +292,8 @@ root-reached s first full e f z = rw (e, f) (root (λ y. z (e ∙ y ∙ sym f)))
 
 -- ---- the check
 -- a refusal goes on
-pub refused-on : (x : Fault) (a b : Verdict) → faultTold x ≡ a → faultTold x ≡ andThen a b
-refused-on (fault.Volume n) a b e = rw (← e)
-refused-on (fault.Header n p) a b e = rw (← e)
+pub broken-on : (n p : ℕ) (a b : Verdict) → broken n p ≡ a → broken n p ≡ andThen a b
+broken-on n p a b e = rw (← e)
 
 pub accepted-on : (a b v : Verdict) → accepted ≡ a → v ≡ b → v ≡ andThen a b
 accepted-on a b v e f = rw (← e) f

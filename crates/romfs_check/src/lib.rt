@@ -11,20 +11,14 @@ ghost use Rattle.romfs_proofs.specs.Links.{linkFault};
 ghost use Rattle.romfs_proofs.specs.Walked.{Volume};
 ghost use Rattle.romfs_headers.specs.Known.{Whole};
 ghost use Rattle.romfs_check.specs.Known.{Walked, Lies};
-ghost use Rattle.romfs_check.specs.Told.{checkTold, CheckFits};
+ghost use Rattle.romfs_check.specs.Told.{verdictTold};
 ghost use Rattle.romfs_check.specs.Marks.{rowOf, markAt, markTo, Marked};
 use romfs_headers::Step;
 
-pub enum Fault {
-    // Number.
-    Volume(u32),
-    // Number, and the header's offset.
-    Header(u32, u32),
-}
-
-pub enum CheckAnswer {
+// The first fault: its number and its place.
+pub enum Verdict {
     Accepted,
-    Refused(Fault),
+    Broken(u32, u32),
 }
 
 // ---- rules 21 to 25
@@ -55,26 +49,26 @@ fn summed(full: usize) -> usize
     if full < 512 { full } else { 512 }
 }
 
-fn check_volume(image: &[u8]) -> CheckAnswer
-    ensures { λ r. ⌜ (checkTold r ≡ volume (now (image .entry))) × CheckFits r ⌝ }
+fn check_volume(image: &[u8]) -> Verdict
+    ensures { λ r. ⌜ verdictTold r ≡ volume (now (image .entry)) ⌝ }
 {
     if image.len() < 32 {
-        return CheckAnswer::Refused(Fault::Volume(21));
+        return Verdict::Broken(21, 0);
     }
     if bad_magic(image) {
-        return CheckAnswer::Refused(Fault::Volume(22));
+        return Verdict::Broken(22, 0);
     }
     let full = romfs_headers::full_size(image);
     if bad_full(full, image.len()) {
-        return CheckAnswer::Refused(Fault::Volume(23));
+        return Verdict::Broken(23, 0);
     }
     if romfs_headers::sum_words(image, 0, summed(full) / 4) != 0 {
-        return CheckAnswer::Refused(Fault::Volume(24));
+        return Verdict::Broken(24, 0);
     }
     if full <= 16 + romfs_headers::name_length(image, 16, full) {
-        return CheckAnswer::Refused(Fault::Volume(25));
+        return Verdict::Broken(25, 0);
     }
-    CheckAnswer::Accepted
+    Verdict::Accepted
 }
 
 // ---- marks: the image is taken in 256 parts, and a part has eight marks, the first header of each depth in it, or 0
@@ -125,20 +119,20 @@ fn walk_list(
     bound: usize,
     left: usize,
     marks: &mut [u32; 2048],
-) -> CheckAnswer
+) -> Verdict
     requires { ⌜ Whole (now image) full × (at < bound) × (bound ≤ full) × (left ≤ 7) × Reached (now image) at bound (8 - left) × Marked (now image) (now marks) ⌝ }
-    ensures { λ r. ⌜ (checkTold r ≡ visitList (now (image .entry)) (visitEntry (now (image .entry)) (fault (now (image .entry))) left bound) (bound - at) at) × CheckFits r × Marked (now (image .entry)) (now (marks .exit)) ⌝ }
+    ensures { λ r. ⌜ (verdictTold r ≡ visitList (now (image .entry)) (visitEntry (now (image .entry)) (fault (now (image .entry))) left bound) (bound - at) at) × Marked (now (image .entry)) (now (marks .exit)) ⌝ }
 {
     let mut p = at;
     loop {
         match walk_entry(image, full, p, bound, left, marks) {
-            CheckAnswer::Refused(f) => {
-                return CheckAnswer::Refused(f);
+            Verdict::Broken(n, q) => {
+                return Verdict::Broken(n, q);
             }
-            CheckAnswer::Accepted => {
+            Verdict::Accepted => {
                 let next = romfs_headers::next_of(image, p);
                 if next == 0 {
-                    return CheckAnswer::Accepted;
+                    return Verdict::Accepted;
                 }
                 p = next;
             }
@@ -154,25 +148,25 @@ fn walk_entry(
     bound: usize,
     left: usize,
     marks: &mut [u32; 2048],
-) -> CheckAnswer
+) -> Verdict
     requires { ⌜ Whole (now image) full × (p < bound) × (bound ≤ full) × (left ≤ 7) × Reached (now image) p bound (8 - left) × Marked (now image) (now marks) ⌝ }
-    ensures { λ r. ⌜ (checkTold r ≡ visitEntry (now (image .entry)) (fault (now (image .entry))) left bound p) × CheckFits r × Marked (now (image .entry)) (now (marks .exit)) ⌝ }
+    ensures { λ r. ⌜ (verdictTold r ≡ visitEntry (now (image .entry)) (fault (now (image .entry))) left bound p) × Marked (now (image .entry)) (now (marks .exit)) ⌝ }
 {
     mark(full, p, left, marks);
     match romfs_headers::read_entry(image, full, bound, left, p) {
-        Step::Broken(n) => CheckAnswer::Refused(Fault::Header(n, p as u32)),
-        Step::Leaf => CheckAnswer::Accepted,
+        Step::Broken(n) => Verdict::Broken(n, p as u32),
+        Step::Leaf => Verdict::Accepted,
         Step::List(first, own) => walk_list(image, full, first, own, left - 1, marks),
     }
 }
 
-fn check_walk(image: &[u8], full: usize, marks: &mut [u32; 2048]) -> CheckAnswer
+fn check_walk(image: &[u8], full: usize, marks: &mut [u32; 2048]) -> Verdict
     requires { ⌜ Whole (now image) full × Volume (now image) × Marked (now image) (now marks) ⌝ }
-    ensures { λ r. ⌜ (checkTold r ≡ walk (now (image .entry))) × CheckFits r × Marked (now (image .entry)) (now (marks .exit)) ⌝ }
+    ensures { λ r. ⌜ (verdictTold r ≡ walk (now (image .entry))) × Marked (now (image .entry)) (now (marks .exit)) ⌝ }
 {
     let first = romfs_headers::first_root(image, full);
     if first == full {
-        return CheckAnswer::Accepted;
+        return Verdict::Accepted;
     }
     walk_list(image, full, first, full, 7, marks)
 }
@@ -311,20 +305,20 @@ fn links_list(
     bound: usize,
     left: usize,
     marks: &[u32; 2048],
-) -> CheckAnswer
+) -> Verdict
     requires { ⌜ Walked (now image) full × (left ≤ 7) × Reached (now image) at bound (8 - left) × Marked (now image) (now marks) ⌝ }
-    ensures { λ r. ⌜ (checkTold r ≡ visitList (now (image .entry)) (visitEntry (now (image .entry)) (linkFault (now (image .entry))) left bound) (bound - at) at) × CheckFits r ⌝ }
+    ensures { λ r. ⌜ verdictTold r ≡ visitList (now (image .entry)) (visitEntry (now (image .entry)) (linkFault (now (image .entry))) left bound) (bound - at) at ⌝ }
 {
     let mut p = at;
     loop {
         match links_entry(image, full, p, bound, left, marks) {
-            CheckAnswer::Refused(f) => {
-                return CheckAnswer::Refused(f);
+            Verdict::Broken(n, q) => {
+                return Verdict::Broken(n, q);
             }
-            CheckAnswer::Accepted => {
+            Verdict::Accepted => {
                 let next = romfs_headers::next_of(image, p);
                 if next == 0 {
-                    return CheckAnswer::Accepted;
+                    return Verdict::Accepted;
                 }
                 p = next;
             }
@@ -339,26 +333,26 @@ fn links_entry(
     bound: usize,
     left: usize,
     marks: &[u32; 2048],
-) -> CheckAnswer
+) -> Verdict
     requires { ⌜ Walked (now image) full × (left ≤ 7) × Reached (now image) p bound (8 - left) × Marked (now image) (now marks) ⌝ }
-    ensures { λ r. ⌜ (checkTold r ≡ visitEntry (now (image .entry)) (linkFault (now (image .entry))) left bound p) × CheckFits r ⌝ }
+    ensures { λ r. ⌜ verdictTold r ≡ visitEntry (now (image .entry)) (linkFault (now (image .entry))) left bound p ⌝ }
 {
     if bad_link(image, full, p, marks) {
-        return CheckAnswer::Refused(Fault::Header(29, p as u32));
+        return Verdict::Broken(29, p as u32);
     }
     match below_entry(image, full, bound, p) {
-        Below::Nothing => CheckAnswer::Accepted,
+        Below::Nothing => Verdict::Accepted,
         Below::List(first, own) => links_list(image, full, first, own, left - 1, marks),
     }
 }
 
-fn check_links(image: &[u8], full: usize, marks: &[u32; 2048]) -> CheckAnswer
+fn check_links(image: &[u8], full: usize, marks: &[u32; 2048]) -> Verdict
     requires { ⌜ Walked (now image) full × Marked (now image) (now marks) ⌝ }
-    ensures { λ r. ⌜ (checkTold r ≡ links (now (image .entry))) × CheckFits r ⌝ }
+    ensures { λ r. ⌜ verdictTold r ≡ links (now (image .entry)) ⌝ }
 {
     let first = romfs_headers::first_root(image, full);
     if first == full {
-        return CheckAnswer::Accepted;
+        return Verdict::Accepted;
     }
     links_list(image, full, first, full, 7, marks)
 }
@@ -366,23 +360,23 @@ fn check_links(image: &[u8], full: usize, marks: &[u32; 2048]) -> CheckAnswer
 // ---- requests
 
 // Rules 26 to 29, of an image whose volume header is right.
-fn check_headers(image: &[u8]) -> CheckAnswer
+fn check_headers(image: &[u8]) -> Verdict
     requires { ⌜ Volume (now image) ⌝ }
-    ensures { λ r. ⌜ (checkTold r ≡ andThen (walk (now (image .entry))) (links (now (image .entry)))) × CheckFits r ⌝ }
+    ensures { λ r. ⌜ verdictTold r ≡ andThen (walk (now (image .entry))) (links (now (image .entry))) ⌝ }
 {
     let full = romfs_headers::full_size(image);
     let mut marks = [0u32; 2048];
     match check_walk(image, full, &mut marks) {
-        CheckAnswer::Refused(f) => CheckAnswer::Refused(f),
-        CheckAnswer::Accepted => check_links(image, full, &marks),
+        Verdict::Broken(n, q) => Verdict::Broken(n, q),
+        Verdict::Accepted => check_links(image, full, &marks),
     }
 }
 
-pub fn check(image: &[u8]) -> CheckAnswer
-    ensures { λ r. ⌜ (checkTold r ≡ rules.check (now (image .entry))) × CheckFits r ⌝ }
+pub fn check(image: &[u8]) -> Verdict
+    ensures { λ r. ⌜ verdictTold r ≡ rules.check (now (image .entry)) ⌝ }
 {
     match check_volume(image) {
-        CheckAnswer::Refused(f) => CheckAnswer::Refused(f),
-        CheckAnswer::Accepted => check_headers(image),
+        Verdict::Broken(n, q) => Verdict::Broken(n, q),
+        Verdict::Accepted => check_headers(image),
     }
 }

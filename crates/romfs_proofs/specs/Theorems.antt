@@ -1,7 +1,7 @@
 -- What the check says: it accepts exactly the accepted images, and each refusal is given exactly when the rules say.
 use Prim.Native.Nat.{ℕ, zero, suc, _-_, _≤_, _<_}
 use mathlib.Core.Path.{_≡_, refl, sym, ap, subst, _∙_}
-use mathlib.Core.Logic.{_≢_, ⊎-elim, _↔_}
+use mathlib.Core.Logic.{_≢_, _⊎_, inl, inr, ⊎-elim, _↔_}
 use mathlib.Core.Bool.{true, false}
 use mathlib.Core.List.{List}
 use native.Mathlib.Omega.{arith}
@@ -9,7 +9,7 @@ use native.Mathlib.Decide.{ℕ-discrete, decLt}
 use Rattle.romfs_spec.specs.Layout.{fullSize, firstRoot, next, info, own, descends, hasList}
 use Rattle.romfs_spec.specs.Check.{Verdict, accepted, broken, tooShort, badMagic, badFullSize, badVolumeSum, badVolumeName, fault, andThen, walk, badLink, links, volume, check}
 use Rattle.romfs_proofs.specs.Tested.{Reached, root, along, inside, IsReached, Sound, Linked, Accepted}
-use Rattle.romfs_proofs.specs.Facts.{has-list, room, next-from, next-to, own-next, first-from, first-to, depth-to, true-false, fault-sound, sound-fault, fault-place}
+use Rattle.romfs_proofs.specs.Facts.{has-list, room, next-from, next-to, own-next, first-from, first-to, depth-to, true-false, fault-sound, sound-fault, fault-place, fault-number}
 use Rattle.romfs_proofs.specs.Visit.{From, Cases, same, later, below, cases, lies, not-both, then-accepted}
 use Rattle.romfs_proofs.specs.Lowest.{lowest, Out, fine, fails, out, yes-no}
 use Rattle.romfs_proofs.specs.Walked.{Volume, volume-of, of-volume, root-in, has-root, met, Met, met-reached, all-met, sound, visit-none, visit-root, reached-in}
@@ -290,3 +290,16 @@ given-is s (broken n p) r = refused-is r
 -- The check gives a verdict exactly when the rules do.
 pub check-given : (s : List ℕ) (v : Verdict) → (check s ≡ v) ↔ Given s v
 check-given s v = (λ e. subst (Given s) e (given s), given-is s v)
+
+-- the numbers of a refusal: 21 to 25 at 0, or 26 to 29
+number-of : {s : List ℕ} {n p : ℕ} → Refused s n p → ((21 ≤ n) × (n ≤ 25) × (p ≡ 0)) ⊎ ((26 ≤ n) × (n ≤ 29))
+number-of (at21 a) = inl (omega arith, omega arith, refl)
+number-of (at22 a b) = inl (omega arith, omega arith, refl)
+number-of (at23 a b c) = inl (omega arith, omega arith, refl)
+number-of (at24 a b c d) = inl (omega arith, omega arith, refl)
+number-of (at25 a b c d e) = inl (omega arith, omega arith, refl)
+number-of {s} (at-header {n = n} {p = p} v f) = let k = fault-number s p (f .bound) (f .depth) n p (f .fails) in inr (k .0, omega (arith, k .1))
+number-of (at-link v h f) = inr (omega arith, omega arith)
+
+pub check-number : (s : List ℕ) (n p : ℕ) → check s ≡ broken n p → ((21 ≤ n) × (n ≤ 25) × (p ≡ 0)) ⊎ ((26 ≤ n) × (n ≤ 29))
+check-number s n p e = number-of (check-given s (broken n p) .0 e)

@@ -1,4 +1,3 @@
-use Rattle.romfs_check.specs.Facts.{fault-fits}
 use Prim.Native.Nat.{ℕ, _+_, _-_, _<_}
 use borrow.Author.Needs.{needs}
 use mathlib.Core.Path.{sym, ap, _∙_}
@@ -7,7 +6,7 @@ use borrow.Fn.Kinds.{In}
 use borrow.Fn.PlainCycle.{Measures, is, falls, and}
 use Rattle.romfs_proofs.specs.Tested.{Reached}
 use Rattle.romfs_proofs.specs.Links.{linkFault}
-use Rattle.romfs_check.specs.Told.{checkTold}
+use Rattle.romfs_check.specs.Told.{verdictTold}
 use Rattle.romfs_check.proofs.Laws as laws
 use Rattle.romfs_check.proofs.links_entry.Reads as links-entry
 use Rattle.romfs_check.proofs.links_entry.Kinds as links-entry-kinds
@@ -56,7 +55,7 @@ links-entry-cast-t10 : (t : ℕ) → links-entry-lts.Need-cast-t10 (E t) (links-
 links-entry-cast-t10 t c = let k = c .before .before .before .pre .1 in record { fits = omega (arith, laws.here-room _ _ (k .0) _ _ _ (k .1) (k .2), k .0 .whole .small) }
 
 links-entry-returns : (t : ℕ) → links-entry-lts.Need-returns (E t) (links-entry-at t) links-entry.Post
-links-entry-returns t c = let k = c .before .before .before .pre .1 in (laws.link-broken _ _ (k .0) _ _ _ (k .1) (k .2) (sym (c .before .bad-link .ensures) ∙ c .if1 .taken), omega arith)
+links-entry-returns t c = let k = c .before .before .before .pre .1 in laws.link-broken _ _ (k .0) _ _ _ (k .1) (k .2) (sym (c .before .bad-link .ensures) ∙ c .if1 .taken)
 
 links-entry-below-entry-requires : (t : ℕ) → links-entry-lts.Need-below-entry-requires (E t) (links-entry-at t) links-entry.Post
 links-entry-below-entry-requires t c κs = let k = c .before .before .before .pre .1 in (k .0 .whole, laws.here-room _ _ (k .0) _ _ _ (k .1) (k .2))
@@ -72,10 +71,10 @@ links-entry-links-list-requires t c κs =
     (search needs, (k .0, search needs, laws.list-reached _ _ (k .0) _ _ _ (k .1) (k .2) _ _ lies, k .3))
 
 links-entry-returns-2 : (t : ℕ) → links-entry-lts.Need-returns-2 (E t) (links-entry-at t) links-entry.Post
-links-entry-returns-2 t c = let k = c .before .before .before .before .before .before .pre .1 in (laws.link-leaf _ _ (k .0) _ _ _ (k .1) (k .2) (sym (c .before .before .before .before .bad-link .ensures) ∙ c .before .before .before .if1 .left) (laws.lies-of _ _ _ (c .enum-told .given .1) (c .before .before .below-entry .ensures)), tt)
+links-entry-returns-2 t c = let k = c .before .before .before .before .before .before .pre .1 in laws.link-leaf _ _ (k .0) _ _ _ (k .1) (k .2) (sym (c .before .before .before .before .bad-link .ensures) ∙ c .before .before .before .if1 .left) (laws.lies-of _ _ _ (c .enum-told .given .1) (c .before .before .below-entry .ensures))
 
 links-entry-returns-3 : (t : ℕ) → links-entry-lts.Need-returns-3 (E t) (links-entry-at t) links-entry.Post
-links-entry-returns-3 t c = let k = c .before .before .before .before .before .before .before .before .pre .1 in (c .links-list .ensures .0 ∙ laws.link-list _ _ (k .0) _ _ _ (k .1) (k .2) _ _ (laws.lies-of _ _ _ (c .before .before .first .given .1) (c .before .before .before .before .below-entry .ensures)) (sym (c .before .before .before .before .before .before .bad-link .ensures) ∙ c .before .before .before .before .before .if1 .left), c .links-list .ensures .1)
+links-entry-returns-3 t c = let k = c .before .before .before .before .before .before .before .before .pre .1 in c .links-list .ensures ∙ laws.link-list _ _ (k .0) _ _ _ (k .1) (k .2) _ _ (laws.lies-of _ _ _ (c .before .before .first .given .1) (c .before .before .before .before .below-entry .ensures)) (sym (c .before .before .before .before .before .before .bad-link .ensures) ∙ c .before .before .before .before .before .if1 .left)
 
 abbrev links-list-Inv-loop : links-list-lts.InvT-loop
 links-list-Inv-loop image full at bound left marks p₀ p = Reached image p bound (8 - left) × laws.Rest image (linkFault image) left bound at p
@@ -87,7 +86,7 @@ links-list-returns : (t : ℕ) → links-list-lts.Need-returns (L t) (links-list
 links-list-returns t c =
     let k = c .before .before .before .before .before .before .pre .1 in
     let l = c .before .before .before .before .loop in
-    (laws.rest-fault _ _ _ _ _ _ (l .inv .1) (laws.here-in _ _ (k .0) _ _ _ (k .1) (l .inv .0)) (c .before .f .given .0 .0) (ap checkTold (sym (c .before .f .given .1)) ∙ c .before .before .before .links-entry .ensures .0), fault-fits _ _ (c .before .f .given .1) (c .before .before .before .links-entry .ensures .1))
+    laws.rest-fault _ _ _ _ _ _ (l .inv .1) (laws.here-in _ _ (k .0) _ _ _ (k .1) (l .inv .0)) _ _ (ap verdictTold (sym (c .before .n .given .1)) ∙ c .before .before .before .links-entry .ensures)
 
 links-list-next-of-requires : (t : ℕ) → links-list-lts.Need-next-of-requires (L t) (links-list-at t) links-list.Post links-list-Inv-loop links-list-μ-loop
 links-list-next-of-requires t c κs =
@@ -99,7 +98,7 @@ links-list-returns-2 : (t : ℕ) → links-list-lts.Need-returns-2 (L t) (links-
 links-list-returns-2 t c =
     let k = c .before .before .before .before .before .before .before .pre .1 in
     let l = c .before .before .before .before .before .loop in
-    (laws.rest-last _ _ _ _ _ _ (l .inv .1) (laws.here-in _ _ (k .0) _ _ _ (k .1) (l .inv .0)) (ap checkTold (sym (c .before .before .enum-told .given .1)) ∙ c .before .before .before .before .links-entry .ensures .0) (sym (c .before .next-of .ensures .0) ∙ c .if1 .taken), tt)
+    laws.rest-last _ _ _ _ _ _ (l .inv .1) (laws.here-in _ _ (k .0) _ _ _ (k .1) (l .inv .0)) (ap verdictTold (sym (c .before .before .enum-told .given .1)) ∙ c .before .before .before .before .links-entry .ensures) (sym (c .before .next-of .ensures .0) ∙ c .if1 .taken)
 
 links-list-loop-less : (t : ℕ) → links-list-lts.Need-loop-less (L t) (links-list-at t) links-list.Post links-list-Inv-loop links-list-μ-loop
 links-list-loop-less t c =
@@ -115,7 +114,7 @@ links-list-loop-again t c =
     let e = c .before .next-of .ensures .0 in
     let n = laws.here-next _ _ (k .0) _ _ _ (k .1) (l .inv .0) _ e (c .if1 .left) in (
       laws.reached-next _ _ _ _ (l .inv .0) _ e (c .if1 .left),
-      laws.rest-next _ _ _ _ _ _ (l .inv .1) (laws.here-in _ _ (k .0) _ _ _ (k .1) (l .inv .0)) (ap checkTold (sym (c .before .before .enum-told .given .1)) ∙ c .before .before .before .before .links-entry .ensures .0) _ e (c .if1 .left) (n .0),
+      laws.rest-next _ _ _ _ _ _ (l .inv .1) (laws.here-in _ _ (k .0) _ _ _ (k .1) (l .inv .0)) (ap verdictTold (sym (c .before .before .enum-told .given .1)) ∙ c .before .before .before .before .links-entry .ensures) _ e (c .if1 .left) (n .0),
     )
 
 pub +links-entry+links-list-spec : {M : Type 1} → statement M

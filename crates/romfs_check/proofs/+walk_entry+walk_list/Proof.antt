@@ -1,4 +1,4 @@
-use Rattle.romfs_check.specs.Facts.{sound-next, fault-fits}
+use Rattle.romfs_check.specs.Facts.{sound-next}
 use Prim.Native.Nat.{ℕ, _+_, _-_, _<_}
 use borrow.Author.Needs.{needs}
 use mathlib.Core.Path.{sym, ap, subst, _∙_}
@@ -8,7 +8,7 @@ use borrow.Fn.Kinds.{In}
 use borrow.Fn.PlainCycle.{Measures, is, falls, and}
 use Rattle.romfs_spec.specs.Check.{fault}
 use Rattle.romfs_proofs.specs.Tested.{Reached}
-use Rattle.romfs_check.specs.Told.{checkTold}
+use Rattle.romfs_check.specs.Told.{verdictTold}
 use Rattle.romfs_check.specs.Marks.{Marked, marked-at}
 use Rattle.romfs_check.proofs.Laws as laws
 use Rattle.romfs_check.proofs.walk_entry.Reads as walk-entry
@@ -78,18 +78,18 @@ walk-entry-returns : (t : ℕ) → walk-entry-lts.Need-returns (E t) (walk-entry
 walk-entry-returns t c =
     let start = c .before .before .before .before .before .before .before in
     let r = laws.reads-of _ _ _ _ (c .before .n .given .1) (c .before .before .before .read-entry .ensures) in
-    (laws.step-broken _ _ _ _ (start .pre .1 .3) _ r, omega (arith, laws.step-number _ _ _ _ _ r), marked t (c .before .before .before .before))
+    (laws.step-broken _ _ _ _ (start .pre .1 .3) _ r, marked t (c .before .before .before .before))
 
 walk-entry-returns-2 : (t : ℕ) → walk-entry-lts.Need-returns-2 (E t) (walk-entry-at t) walk-entry.Post
 walk-entry-returns-2 t c =
     let start = c .before .before .before .before .before .before in
-    (laws.step-leaf _ _ _ _ (start .pre .1 .3) (laws.reads-of _ _ _ _ (c .enum-told .given .1) (c .before .before .read-entry .ensures)), tt, marked t (c .before .before .before))
+    (laws.step-leaf _ _ _ _ (start .pre .1 .3) (laws.reads-of _ _ _ _ (c .enum-told .given .1) (c .before .before .read-entry .ensures)), marked t (c .before .before .before))
 
 walk-entry-returns-3 : (t : ℕ) → walk-entry-lts.Need-returns-3 (E t) (walk-entry-at t) walk-entry.Post
 walk-entry-returns-3 t c =
     let start = c .before .before .before .before .before .before .before .before .before in
     let r = laws.reads-of _ _ _ _ (c .before .before .before .first .given .1) (c .before .before .before .before .before .read-entry .ensures) in
-    (c .walk-list .ensures .0 ∙ laws.step-list _ _ _ _ (start .pre .1 .3) _ _ r, c .walk-list .ensures .1, c .walk-list .ensures .2)
+    (c .walk-list .ensures .0 ∙ laws.step-list _ _ _ _ (start .pre .1 .3) _ _ r, c .walk-list .ensures .1)
 
 abbrev walk-list-Inv-loop : walk-list-lts.InvT-loop
 walk-list-Inv-loop image full at bound left marks₀ p₀ marks p = (p < bound) × laws.Rest image (fault image) left bound at p × Reached image p bound (8 - left) × Marked image marks
@@ -101,22 +101,22 @@ walk-list-returns : (t : ℕ) → walk-list-lts.Need-returns (L t) (walk-list-at
 walk-list-returns t c =
     let l = c .before .before .before .before .before .loop in
     let y = c .before .before .before .walk-entry .ensures in
-    (laws.rest-fault _ _ _ _ _ _ (l .inv .1) (l .inv .0) (c .before .f .given .0 .0) (ap checkTold (sym (c .before .f .given .1)) ∙ y .0), fault-fits _ _ (c .before .f .given .1) (y .1), y .2)
+    (laws.rest-fault _ _ _ _ _ _ (l .inv .1) (l .inv .0) _ _ (ap verdictTold (sym (c .before .n .given .1)) ∙ y .0), y .1)
 
 walk-list-next-of-requires : (t : ℕ) → walk-list-lts.Need-next-of-requires (L t) (walk-list-at t) walk-list.Post walk-list-Inv-loop walk-list-μ-loop
 walk-list-next-of-requires t c κs =
-    let h = laws.walked-sound _ _ _ _ (c .before .before .before .before .before .before .pre .1 .3) (ap checkTold (sym (c .enum-told .given .1)) ∙ c .before .before .walk-entry .ensures .0) in
+    let h = laws.walked-sound _ _ _ _ (c .before .before .before .before .before .before .pre .1 .3) (ap verdictTold (sym (c .enum-told .given .1)) ∙ c .before .before .walk-entry .ensures .0) in
     omega (arith, laws.sound-room _ _ _ _ h)
 
 walk-list-returns-2 : (t : ℕ) → walk-list-lts.Need-returns-2 (L t) (walk-list-at t) walk-list.Post walk-list-Inv-loop walk-list-μ-loop
 walk-list-returns-2 t c =
     let l = c .before .before .before .before .before .before .loop in
     let y = c .before .before .before .before .walk-entry .ensures in
-    (laws.rest-last _ _ _ _ _ _ (l .inv .1) (l .inv .0) (ap checkTold (sym (c .before .before .enum-told .given .1)) ∙ y .0) (sym (c .before .next-of .ensures .0) ∙ c .if1 .taken), tt, y .2)
+    (laws.rest-last _ _ _ _ _ _ (l .inv .1) (l .inv .0) (ap verdictTold (sym (c .before .before .enum-told .given .1)) ∙ y .0) (sym (c .before .next-of .ensures .0) ∙ c .if1 .taken), y .1)
 
 walk-list-loop-less : (t : ℕ) → walk-list-lts.Need-loop-less (L t) (walk-list-at t) walk-list.Post walk-list-Inv-loop walk-list-μ-loop
 walk-list-loop-less t c =
-    let h = laws.walked-sound _ _ _ _ (c .before .before .before .before .before .before .before .before .pre .1 .3) (ap checkTold (sym (c .before .before .enum-told .given .1)) ∙ c .before .before .before .before .walk-entry .ensures .0) in
+    let h = laws.walked-sound _ _ _ _ (c .before .before .before .before .before .before .before .before .pre .1 .3) (ap verdictTold (sym (c .before .before .enum-told .given .1)) ∙ c .before .before .before .before .walk-entry .ensures .0) in
     let n = sound-next _ _ _ _ _ h (c .before .next-of .ensures .0) (c .if1 .left) in
     omega arith
 
@@ -124,14 +124,14 @@ walk-list-loop-again : (t : ℕ) → walk-list-lts.Need-loop-again (L t) (walk-l
 walk-list-loop-again t c =
     let l = c .before .before .before .before .before .before .loop in
     let y = c .before .before .before .before .walk-entry .ensures in
-    let e = ap checkTold (sym (c .before .before .enum-told .given .1)) ∙ y .0 in
+    let e = ap verdictTold (sym (c .before .before .enum-told .given .1)) ∙ y .0 in
     let h = laws.walked-sound _ _ _ _ (c .before .before .before .before .before .before .before .before .pre .1 .3) e in
     let f = c .before .next-of .ensures .0 in
     let n = sound-next _ _ _ _ _ h f (c .if1 .left) in (
       n .1,
       laws.rest-next _ _ _ _ _ _ (l .inv .1) (l .inv .0) e _ f (c .if1 .left) (n .0),
       laws.reached-next _ _ _ _ (l .inv .2) _ f (c .if1 .left),
-      y .2,
+      y .1,
     )
 
 pub +walk-entry+walk-list-spec : {M : Type 1} → statement M

@@ -1,8 +1,8 @@
-use Rattle.romfs_check.specs.Facts.{length-of, whole-volume, fault-fits}
+use Rattle.romfs_check.specs.Facts.{length-of, whole-volume}
 use mathlib.Core.Path.{sym, ap, _∙_}
 use denote.Ref.{now}
 use Rattle.romfs_spec.specs.Check.{walk, links}
-use Rattle.romfs_check.specs.Told.{checkTold}
+use Rattle.romfs_check.specs.Told.{verdictTold}
 use Rattle.romfs_check.specs.Marks.{marked-none}
 use Rattle.romfs_check.proofs.Laws as laws
 use borrow.Author.Needs.{needs}
@@ -23,19 +23,19 @@ check-links-requires c κs =
     let v = c .before .before .before .before .before .before .before .pre in
     let f = c .before .before .before .before .before .full-size .ensures in
     let y = c .before .before .before .check-walk .ensures in
-    (record { whole = whole-volume _ _ v (f .0) (f .1); volume = v; walked = sym (ap checkTold (sym (c .before .enum-told .given .1)) ∙ y .0) }, y .2)
+    (record { whole = whole-volume _ _ v (f .0) (f .1); volume = v; walked = sym (ap verdictTold (sym (c .before .enum-told .given .1)) ∙ y .0) }, y .1)
 
 returns : tie.Need-returns
 returns c =
     let s = now (c .before .before .before .before .before .before .before .args .image) in
     let y = c .before .before .before .check-walk .ensures in
-    (laws.refused-on (c .before .f .given .0 .0) (walk s) (links s) (ap checkTold (sym (c .before .f .given .1)) ∙ y .0), fault-fits _ _ (c .before .f .given .1) (y .1))
+    laws.broken-on _ _ (walk s) (links s) (ap verdictTold (sym (c .before .n .given .1)) ∙ y .0)
 
 returns-2 : tie.Need-returns-2
 returns-2 c =
     let s = now (c .before .before .before .before .before .before .before .before .args .image) in
     let y = c .before .before .before .before .check-walk .ensures in
-    (laws.accepted-on (walk s) (links s) (checkTold (c .check-links .result)) (ap checkTold (sym (c .before .before .enum-told .given .1)) ∙ y .0) (c .check-links .ensures .0), c .check-links .ensures .1)
+    laws.accepted-on (walk s) (links s) (verdictTold (c .check-links .result)) (ap verdictTold (sym (c .before .before .enum-told .given .1)) ∙ y .0) (c .check-links .ensures)
 
 pub check-headers-spec : {M : Type 1} → statement M
 check-headers-spec =

@@ -32,48 +32,42 @@ sum-fine c = sym (sum-is (c .before)) ∙ laws.zero _ (c .if4 .left)
 
 -- ---- the answers
 returns : tie.Need-returns
-returns c = (laws.volume-21 _ (c .if1 .taken), omega arith)
+returns c = laws.volume-21 _ (c .if1 .taken)
 
 returns-2 : tie.Need-returns-2
-returns-2 c = (laws.volume-22 _ (c .before .before .if1 .left) (sym (c .before .bad-magic .ensures) ∙ c .if2 .taken), omega arith)
+returns-2 c = laws.volume-22 _ (c .before .before .if1 .left) (sym (c .before .bad-magic .ensures) ∙ c .if2 .taken)
 
 returns-3 : tie.Need-returns-3
-returns-3 c = (laws.volume-23 _ (c .before .before .before .before .before .if1 .left) (magic-fine (c .before .before .before)) (sym (size-is (c .before)) ∙ c .if3 .taken), omega arith)
+returns-3 c = laws.volume-23 _ (c .before .before .before .before .before .if1 .left) (magic-fine (c .before .before .before)) (sym (size-is (c .before)) ∙ c .if3 .taken)
 
 sum-words-requires : tie.Need-sum-words-requires
 sum-words-requires c κs = let w = whole (c .before) in omega (arith, c .summed .ensures)
 
 returns-4 : tie.Need-returns-4
-returns-4 c = (
-  laws.volume-24 _ (c .before .before .before .before .before .before .before .before .if1 .left)
-      (magic-fine (c .before .before .before .before .before .before))
-      (size-fine (c .before .before .before))
-      (sym (sum-is (c .before)) ∙ laws.not-zero _ (c .if4 .taken)),
-  omega arith,
-)
+returns-4 c =
+    laws.volume-24 _ (c .before .before .before .before .before .before .before .before .if1 .left)
+    (magic-fine (c .before .before .before .before .before .before))
+    (size-fine (c .before .before .before))
+    (sym (sum-is (c .before)) ∙ laws.not-zero _ (c .if4 .taken))
 
 name-length-requires : tie.Need-name-length-requires
 name-length-requires c κs = let w = whole (c .before .before .before) in (w .0, search needs)
 
 returns-5 : tie.Need-returns-5
-returns-5 c = (
-  laws.volume-25 _ (c .before .before .before .before .before .before .before .before .before .before .if1 .left)
-      (magic-fine (c .before .before .before .before .before .before .before .before))
-      (size-fine (c .before .before .before .before .before))
-      (sum-fine (c .before .before))
-      (laws.name-bad _ _ _ (c .before .name-length .ensures .0) (c .before .before .before .before .before .before .before .full-size .ensures .0) (c .if5 .taken)),
-  omega arith,
-)
+returns-5 c =
+    laws.volume-25 _ (c .before .before .before .before .before .before .before .before .before .before .if1 .left)
+    (magic-fine (c .before .before .before .before .before .before .before .before))
+    (size-fine (c .before .before .before .before .before))
+    (sum-fine (c .before .before))
+    (laws.name-bad _ _ _ (c .before .name-length .ensures .0) (c .before .before .before .before .before .before .before .full-size .ensures .0) (c .if5 .taken))
 
 returns-6 : tie.Need-returns-6
-returns-6 c = (
-  laws.volume-fine _ (c .before .before .before .before .before .before .before .before .before .before .if1 .left)
-      (magic-fine (c .before .before .before .before .before .before .before .before))
-      (size-fine (c .before .before .before .before .before))
-      (sum-fine (c .before .before))
-      (laws.name-fine _ _ _ (c .before .name-length .ensures .0) (c .before .before .before .before .before .before .before .full-size .ensures .0) (c .if5 .left)),
-  tt,
-)
+returns-6 c =
+    laws.volume-fine _ (c .before .before .before .before .before .before .before .before .before .before .if1 .left)
+    (magic-fine (c .before .before .before .before .before .before .before .before))
+    (size-fine (c .before .before .before .before .before))
+    (sum-fine (c .before .before))
+    (laws.name-fine _ _ _ (c .before .name-length .ensures .0) (c .before .before .before .before .before .before .before .full-size .ensures .0) (c .if5 .left))
 
 pub check-volume-spec : {M : Type 1} → statement M
 check-volume-spec =

@@ -14,7 +14,7 @@ returns : tie.Need-returns
 unfolding walk
 returns c =
     let k = c .before .before .before .pre in
-    (laws.root-none _ (fault _) _ _ (c .before .first-root .ensures) (k .0 .is) (c .if1 .taken), tt, k .2)
+    (laws.root-none _ (fault _) _ _ (c .before .first-root .ensures) (k .0 .is) (c .if1 .taken), k .2)
 
 walk-list-requires : tie.Need-walk-list-requires
 unfolding walk
@@ -29,7 +29,7 @@ unfolding walk
 returns-2 c =
     let k = c .before .before .before .before .before .pre in
     let y = c .walk-list .ensures in
-    (y .0 ∙ laws.root-some _ (fault _) _ _ (c .before .before .before .first-root .ensures) (k .0 .is) (c .before .before .if1 .left), y .1, y .2)
+    (y .0 ∙ laws.root-some _ (fault _) _ _ (c .before .before .before .first-root .ensures) (k .0 .is) (c .before .before .if1 .left), y .1)
 
 pub check-walk-spec : {M : Type 1} → statement M
 check-walk-spec = tie.close (tie.spec first-root-requires returns walk-list-requires returns-2)

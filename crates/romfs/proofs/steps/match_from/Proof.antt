@@ -4,18 +4,18 @@ use Prim.Native.Nat.{_-_}
 use native.Mathlib.Omega.{arith}
 use Rattle.romfs_proofs.specs.Tested.{IsReached}
 use Rattle.romfs_check.specs.Facts.{reach-room}
-use Rattle.romfs.proofs.Answers as answers
-use Rattle.romfs.proofs.match_from.Statement.{statement}
-use Rattle.romfs.proofs.match_from.Tie as tie
+use Rattle.romfs.proofs.Laws as laws
+use Rattle.romfs.proofs.steps.match_from.Statement.{statement}
+use Rattle.romfs.proofs.steps.match_from.Tie as tie
 
 abbrev Inv-loop : tie.InvT-loop
-Inv-loop image full first name p₀ p = IsReached image p × answers.Match image name full first p
+Inv-loop image full first name p₀ p = IsReached image p × laws.Match image name full first p
 
 abbrev μ-loop : tie.MeasureT-loop
 μ-loop image full first name p₀ p = full - p
 
 loop-holds : tie.Need-loop-holds Inv-loop μ-loop
-loop-holds c = (c .before .before .pre .1, answers.match-start _ _ _ _)
+loop-holds c = (c .before .before .pre .1, laws.match-start _ _ _ _)
 
 add-name-length : tie.Need-add-name-length Inv-loop μ-loop
 add-name-length c =
@@ -37,33 +37,33 @@ returns : tie.Need-returns Inv-loop μ-loop
 returns c =
     let w = c .before .before .before .before .before .before .pre .0 in
     let l = c .before .before .before .loop in
-    let t = answers.name-test _ _ _ _ _ (c .before .name-is .ensures) (c .before .before .name-length .ensures .0) in
-    (answers.match-here _ _ w _ (l .inv .0) _ _ (l .inv .1) (sym t ∙ c .if1 .taken), omega (arith, reach-room _ _ w _ (l .inv .0), w .whole .small))
+    let t = laws.name-test _ _ _ _ _ (c .before .name-is .ensures) (c .before .before .name-length .ensures .0) in
+    (laws.match-here _ _ w _ (l .inv .0) _ _ (l .inv .1) (sym t ∙ c .if1 .taken), omega (arith, reach-room _ _ w _ (l .inv .0), w .whole .small))
 
 next-of-requires : tie.Need-next-of-requires Inv-loop μ-loop
-next-of-requires c κs = answers.in-image _ _ (c .before .before .before .before .before .before .pre .0) _ (c .before .before .before .loop .inv .0)
+next-of-requires c κs = laws.in-image _ _ (c .before .before .before .before .before .before .pre .0) _ (c .before .before .before .loop .inv .0)
 
 returns-2 : tie.Need-returns-2 Inv-loop μ-loop
 returns-2 c =
     let w = c .before .before .before .before .before .before .before .before .pre .0 in
     let l = c .before .before .before .before .before .loop in
-    let t = answers.name-test _ _ _ _ _ (c .before .before .before .name-is .ensures) (c .before .before .before .before .name-length .ensures .0) in
-    (answers.match-none _ _ w _ (l .inv .0) _ _ (l .inv .1) (sym t ∙ c .before .before .if1 .left) (sym (c .before .next-of .ensures .0) ∙ c .if2 .taken), search needs)
+    let t = laws.name-test _ _ _ _ _ (c .before .before .before .name-is .ensures) (c .before .before .before .before .name-length .ensures .0) in
+    (laws.match-none _ _ w _ (l .inv .0) _ _ (l .inv .1) (sym t ∙ c .before .before .if1 .left) (sym (c .before .next-of .ensures .0) ∙ c .if2 .taken), search needs)
 
 loop-less : tie.Need-loop-less Inv-loop μ-loop
 loop-less c =
     let w = c .before .before .before .before .before .before .before .before .pre .0 in
     let l = c .before .before .before .before .before .loop in
-    omega (arith, reach-room _ _ w _ (l .inv .0), answers.on-further _ _ w _ (l .inv .0) _ (c .before .next-of .ensures .0) (c .if2 .left))
+    omega (arith, reach-room _ _ w _ (l .inv .0), laws.on-further _ _ w _ (l .inv .0) _ (c .before .next-of .ensures .0) (c .if2 .left))
 
 loop-again : tie.Need-loop-again Inv-loop μ-loop
 loop-again c =
     let w = c .before .before .before .before .before .before .before .before .pre .0 in
     let l = c .before .before .before .before .before .loop in
     let e = c .before .next-of .ensures .0 in
-    let t = answers.name-test _ _ _ _ _ (c .before .before .before .name-is .ensures) (c .before .before .before .before .name-length .ensures .0) in (
-      answers.on-reached _ _ w _ (l .inv .0) _ e (c .if2 .left),
-      answers.match-on _ _ w _ (l .inv .0) _ _ (l .inv .1) (sym t ∙ c .before .before .if1 .left) _ e (c .if2 .left),
+    let t = laws.name-test _ _ _ _ _ (c .before .before .before .name-is .ensures) (c .before .before .before .before .name-length .ensures .0) in (
+      laws.on-reached _ _ w _ (l .inv .0) _ e (c .if2 .left),
+      laws.match-on _ _ w _ (l .inv .0) _ _ (l .inv .1) (sym t ∙ c .before .before .if1 .left) _ e (c .if2 .left),
     )
 
 pub match-from-spec : {M : Type 1} → statement M

@@ -1,29 +1,28 @@
 -- Laws of the answers, one for each way that the code takes.
 use Prim.Native.Nat.{ℕ, zero, suc, _+_, _-_, _≤_, _<_}
 use mathlib.Core.Path.{_≡_, refl, sym, ap, subst, _∙_}
-use mathlib.Core.Logic.{_≢_}
+use mathlib.Core.Logic.{_≢_, ⊎-elim}
 use mathlib.Core.Bool.{Bool, true, false}
 use mathlib.Core.List.{List, []}
 use native.Mathlib.Omega.{arith}
 use native.Mathlib.Nat.{add-sub-cancel-left}
-use borrow.Author.Tests.{eq-eqb, ne-eqb}
+use borrow.Author.Tests.{eq-eqb, ne-eqb, lt-ltb, le-ltb}
 use lib.ListN.{length, take, drop}
 use lib.Dec.{eqb}
 use Rattle.lists.specs.Lists.{sameList, part}
 use Rattle.romfs_spec.specs.Layout.{fullSize, pad16, firstRoot, nameLength, fileType, executable, next, info, size, name, contentAt, afterName, hasData}
-use Rattle.romfs_spec.specs.Check.{Verdict, accepted, isReached, check}
+use Rattle.romfs_spec.specs.Check.{Verdict, accepted, broken, isReached, check}
 use Rattle.romfs_proofs.specs.Tested.{along, IsReached}
-use Rattle.romfs_spec.specs.Requests as answers
+use Rattle.romfs_spec.specs.Requests as rules
 use Rattle.romfs_spec.specs.Requests.{Answer, granted, refused, checked, firstOf, matchFrom, matchIn, isDirectory, findStep, Entry, entryAt, entryStep, contentStep, partOf, startOf}
 use Rattle.romfs_proofs.specs.Walked.{volume-of, sound}
-use Rattle.romfs_proofs.specs.Theorems.{check-parts}
+use Rattle.romfs_proofs.specs.Theorems.{check-parts, check-number}
 use Rattle.romfs_proofs.specs.Find.{match-yes, match-end, match-next}
-use Rattle.romfs_proofs.specs.Given.{Content}
+use Rattle.romfs_proofs.specs.Given.{content-in}
 use Rattle.romfs_check.specs.Known.{Walked}
-use Rattle.romfs_check.specs.Told.{faultTold}
-use Rattle.romfs.specs.Told.{toldUnsound}
-use Rattle.romfs_check.specs.declared.Fault.{Fault}
-use Rattle.romfs_check.specs.declared.Fault.the-variants as fault
+use Rattle.romfs.specs.Told.{faultTold, FaultFits, faultOf, faultAnswer}
+use Rattle.romfs.specs.declared.Fault.{Fault}
+use Rattle.romfs.specs.declared.Fault.the-variants as fault
 use Rattle.romfs_check.specs.Facts.{length-of, whole-volume, reach-room, sound-next}
 
 -- ---- after the check
@@ -40,13 +39,30 @@ walked-of s full e f h =
 pub in-image : (s : List ℕ) (full : ℕ) (w : Walked s full) (p : ℕ) → IsReached s p → p + 16 ≤ length s
 in-image s full w p r = omega (arith, reach-room s full w p r, w .whole .inside)
 
-module _ {A : Type 0} where
-  pub unsound : (x : Fault) (v : Verdict) (a : Answer A) → faultTold x ≡ v → toldUnsound {A = A} x ≡ checked v a
-  unsound (fault.Volume n) v a e = rw (← e)
-  unsound (fault.Header n p) v a e = rw (← e)
+-- the number of a fault has its case, 21 to 25 at 0
+fault-by : (s : List ℕ) (n p : ℕ) → check s ≡ broken n p → (faultTold (faultOf n p) ≡ broken n p) × FaultFits (faultOf n p)
+fault-by s n p e = ⊎-elim volume header (check-number s n p e)
+  where
+    volume : (21 ≤ n) × (n ≤ 25) × (p ≡ 0) → (faultTold (faultOf n p) ≡ broken n p) × FaultFits (faultOf n p)
+    volume h = rw (lt-ltb n 26 (omega arith)) (ap (broken n) (sym (h .2)), (h .0, h .1))
 
-  pub go-on : (v : Verdict) (a b : Answer A) → accepted ≡ v → b ≡ a → b ≡ checked v a
-  go-on v a b e f = rw (← e) f
+    header : (26 ≤ n) × (n ≤ 29) → (faultTold (faultOf n p) ≡ broken n p) × FaultFits (faultOf n p)
+    header h = rw (le-ltb n 26 (omega arith)) (refl, h)
+
+pub check-fault : (s : List ℕ) (f : Fault) (n p : ℕ) → f ≡ faultOf n p → broken n p ≡ check s → (faultTold f ≡ check s) × FaultFits f
+check-fault s f n p h e = let k = fault-by s n p (sym e) in rw h (k .0 ∙ e, k .1)
+
+-- A request checks the image, and gives the fault or goes on with its step.
+module _ {A : Type 0} (s : List ℕ) (step : Answer A) where
+  fault-answer : (f : Fault) (v : Verdict) → faultTold f ≡ v → faultAnswer {A = A} f ≡ checked v step
+  fault-answer (fault.Volume n) v e = rw (← e)
+  fault-answer (fault.Header n p) v e = rw (← e)
+
+  pub at-fault : (f : Fault) (n p : ℕ) → f ≡ faultOf n p → broken n p ≡ check s → (faultAnswer f ≡ checked (check s) step) × FaultFits f
+  at-fault f n p h e = let k = check-fault s f n p h e in (fault-answer f (check s) (k .0), k .1)
+
+  pub passed : (a : Answer A) → accepted ≡ check s → a ≡ step → a ≡ checked (check s) step
+  passed a e h = rw (← e) h
 
 -- ---- find
 module _ (s : List ℕ) (dir : ℕ) where
@@ -129,10 +145,6 @@ module _ (s want : List ℕ) (dir : ℕ) where
   unfolding findStep
   find-step-at d first full at e z f h y = rw (d, ← match-in first full at e z f h, ne-eqb at 0 y)
 
-  pub find-is : (a : Answer ℕ) → a ≡ checked (check s) (findStep s dir want) → a ≡ answers.find s dir want
-  unfolding answers.find
-  find-is a e = e
-
 -- ---- entry and content
 module _ (s : List ℕ) (p : ℕ) where
   pub entry-step-31 : isReached s p ≡ false → refused 31 0 ≡ entryStep s p
@@ -142,10 +154,6 @@ module _ (s : List ℕ) (p : ℕ) where
   pub entry-step-as : isReached s p ≡ true → (e : Entry) → e ≡ entryAt s p → granted e ≡ entryStep s p
   unfolding entryStep
   entry-step-as r e h = rw (r, h)
-
-  pub entry-is : (a : Answer Entry) → a ≡ checked (check s) (entryStep s p) → a ≡ answers.entry s p
-  unfolding answers.entry
-  entry-is a e = e
 
   pub entry-fields : (k x i z n l : ℕ) → k ≡ fileType s p → x ≡ executable s p → i ≡ info s p → z ≡ size s p → n ≡ next s p → l ≡ nameLength s (p + 16) → _≡_ {A = Entry} (record { fileType = k; executable = x; info = i; size = z; next = n; nameLength = l }) (entryAt s p)
   unfolding entryAt
@@ -163,34 +171,36 @@ module _ (s : List ℕ) (p : ℕ) where
   unfolding contentStep
   content-step-as r k e h n f = let h₂ = rw e at h in rw (r, h₂, f)
 
-  pub length-is : (a : Answer ℕ) → a ≡ checked (check s) (contentStep s p) → a ≡ answers.contentLength s p
-  unfolding answers.contentLength
-  length-is a e = e
+  -- ---- where it lies
+  pub content-passed : (o : ℕ) → accepted ≡ check s → o ≡ startOf (contentAt s p) (contentStep s p) → o ≡ rules.contentStart s p
+  unfolding rules.contentStart rules.contentLength
+  content-passed o e h = rw (← e) h
 
-  pub content-is : (a : Answer ℕ) → a ≡ answers.contentLength s p → partOf s (contentAt s p) a ≡ answers.content s p
-  unfolding answers.content
-  content-is a e = ap (partOf s (contentAt s p)) e
+  pub content-fault : (n q : ℕ) → broken n q ≡ check s → 0 ≡ rules.contentStart s p
+  unfolding rules.contentStart rules.contentLength
+  content-fault n q e = rw (← e)
 
-  -- where each case of the length's answer begins
-  pub start-is : (a : Answer ℕ) → a ≡ answers.contentLength s p → startOf (contentAt s p) a ≡ answers.contentStart s p
-  unfolding answers.contentStart
-  start-is a e = ap (startOf (contentAt s p)) e
-
-  pub unsound-start : (x : Fault) (at : ℕ) → 0 ≡ startOf at (toldUnsound x)
-  unsound-start (fault.Volume n) at = refl
-  unsound-start (fault.Header n q) at = refl
-
-  pub content-start : (n e : ℕ) → n ≡ nameLength s (p + 16) → e ≡ p + 16 + pad16 (n + 1) → e ≡ contentAt s p
+  pub name-end : (n e : ℕ) → n ≡ nameLength s (p + 16) → e ≡ p + 16 + pad16 (n + 1) → e ≡ contentAt s p
   unfolding contentAt afterName
-  content-start n e h f = omega arith
+  name-end n e h f = omega arith
 
-  pub content-end : (n e full : ℕ) → Content s p n → Walked s full → e ≡ contentAt s p → e + n ≤ length s
-  content-end n e full k w h = omega (arith, k .inside, w .whole .is, w .whole .inside)
+  content-granted : check s ≡ accepted → (n : ℕ) → granted n ≡ contentStep s p → rules.contentLength s p ≡ granted n
+  unfolding rules.contentLength
+  content-granted e n h = rw e (sym h)
 
-  pub content-part : (n e : ℕ) → e ≡ contentAt s p → take (e + n - e) (drop e s) ≡ part (contentAt s p) n s
-  unfolding part
-  content-part n e h = rw (add-sub-cancel-left, h)
+  -- the content of a passed check lies in the image
+  pub content-end : check s ≡ accepted → (n : ℕ) → granted n ≡ contentStep s p → (contentAt s p + n ≤ fullSize s) × (fullSize s ≤ length s)
+  content-end e n h = let k = content-in s p n (content-granted e n h) in (k .inside, k .full)
 
-  pub unsound-part : (x : Fault) (at : ℕ) → [] ≡ partOf s at (toldUnsound x)
-  unsound-part (fault.Volume n) at = refl
-  unsound-part (fault.Header n q) at = refl
+  pub part-is : (o n : ℕ) → o ≡ rules.contentStart s p → granted n ≡ rules.contentLength s p → take (o + n - o) (drop o s) ≡ rules.content s p
+  unfolding rules.content rules.contentStart part
+  part-is o n h e = rw (add-sub-cancel-left, h, ← e)
+
+  pub fault-part : (f : Fault) → faultAnswer f ≡ rules.contentLength s p → [] ≡ rules.content s p
+  unfolding rules.content
+  fault-part (fault.Volume n) e = rw (← e)
+  fault-part (fault.Header n q) e = rw (← e)
+
+  pub refused-part : (n : ℕ) → refused n 0 ≡ rules.contentLength s p → [] ≡ rules.content s p
+  unfolding rules.content
+  refused-part n e = rw (← e)
