@@ -1,7 +1,7 @@
 -- Laws of the answers, one for each way that the code takes.
-use Prim.Native.Nat.{ℕ, zero, suc, _+_, _-_, _≤_, _<_}
+use Prim.Native.Nat.{ℕ, _+_, _-_, _≤_, _<_}
 use mathlib.Core.Path.{_≡_, refl, sym, ap, subst, _∙_}
-use mathlib.Core.Logic.{_≢_, ⊎-elim}
+use mathlib.Core.Logic.{⊎-elim}
 use mathlib.Core.Bool.{Bool, true, false}
 use mathlib.Core.List.{List, []}
 use native.Mathlib.Omega.{arith}
@@ -14,7 +14,7 @@ use Rattle.romfs_spec.specs.Layout.{fullSize, pad16, firstRoot, nameLength, fil
 use Rattle.romfs_spec.specs.Check.{Verdict, accepted, broken, isReached, check}
 use Rattle.romfs_proofs.specs.Tested.{along, IsReached}
 use Rattle.romfs_spec.specs.Requests as rules
-use Rattle.romfs_spec.specs.Requests.{Answer, granted, refused, checked, firstOf, matchFrom, matchIn, isDirectory, findStep, Entry, entryAt, entryStep, contentStep, partOf, startOf}
+use Rattle.romfs_spec.specs.Requests.{Answer, granted, refused, checked, firstOf, matchFrom, matchIn, isDirectory, findStep, Entry, entryAt, entryStep, contentStep, startOf}
 use Rattle.romfs_proofs.specs.Walked.{volume-of, sound}
 use Rattle.romfs_proofs.specs.Theorems.{check-parts, check-number}
 use Rattle.romfs_proofs.specs.Find.{match-yes, match-end, match-next}

@@ -2,7 +2,6 @@
 use Prim.Native.Nat.{ℕ}
 use mathlib.Core.Path.{_≡_, refl, ap, subst, _∙_}
 use Rattle.romfs_spec.specs.Requests.{Answer, granted, refused, Entry, checked}
-use Rattle.romfs.specs.declared.Fault.{Fault}
 use Rattle.romfs.specs.declared.Fault.the-variants as fault
 use Rattle.romfs.specs.declared.CheckAnswer.{CheckAnswer}
 use Rattle.romfs.specs.declared.CheckAnswer.the-variants as checks

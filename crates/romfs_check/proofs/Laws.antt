@@ -1,7 +1,6 @@
 -- Laws of the walks, one for each way that the code takes.
 use Prim.Native.Nat.{ℕ, suc, _+_, _-_, _/_, _%_, _≤_, _<_, min}
 use mathlib.Core.Path.{_≡_, refl, sym, ap, subst, _∙_}
-use mathlib.Core.Logic.{_≢_}
 use mathlib.Core.Bool.{Bool, true, false, not, _&&_, _||_}
 use mathlib.Core.List.{List}
 use native.Mathlib.Omega.{arith}
@@ -13,9 +12,9 @@ use Rattle.romfs_spec.specs.Check as rules
 use Rattle.romfs_spec.specs.Check.{Verdict, accepted, broken, tooShort, badMagic, badFullSize, badVolumeSum, badVolumeName, andThen, visitList, visitEntry, visitAll, walk, volume, links, check, leads, towards, seek, isReached, badLink}
 use Rattle.romfs_proofs.specs.Tested.{Reached, root, along, inside, IsReached, Sound}
 use Rattle.list_laws.specs.Test.{or-no-l, or-no-r}
-use Rattle.romfs_proofs.specs.Facts.{room, ends, next-from, next-to, own-to, first-to, depth-to, fault-sound, list-descends, list-first}
+use Rattle.romfs_proofs.specs.Facts.{room, ends, own-to, first-to, depth-to, fault-sound, list-descends, list-first}
 use Rattle.romfs_proofs.specs.Visit.{list-refused, list-last, list-next, entry-refused, entry-leaf, entry-list, entry-test}
-use Rattle.romfs_proofs.specs.Walked.{Volume, full-from, full-to, root-to, visit-none, visit-root, sound, reached-in, reached-room}
+use Rattle.romfs_proofs.specs.Walked.{Volume, root-to, visit-none, visit-root, sound, reached-in}
 use Rattle.romfs_proofs.specs.Links.{linkFault}
 use Rattle.romfs_proofs.specs.Seek.{seek-here, seek-none, seek-on, seek-reached, reached-is, is-none, is-seek, towards-reached, towards-further}
 use Rattle.romfs_headers.specs.Known.{Whole, Reads, stepOf, step-reads}

@@ -1,5 +1,5 @@
 -- Find, entry and content: each answer is given exactly when the rules say, in plain facts.
-use Prim.Native.Nat.{ℕ, _+_, _≤_, _<_}
+use Prim.Native.Nat.{ℕ, _+_}
 use mathlib.Core.Path.{_≡_, refl, sym, ap, subst, _∙_}
 use mathlib.Core.Logic.{_≢_, _⊎_, inl, inr, ⊎-elim, _↔_}
 use mathlib.Core.Bool.{Bool, true, false, cond, _&&_}
@@ -11,10 +11,10 @@ use lib.ListN.{length}
 use lib.Dec.{eqb}
 use Rattle.lists.specs.Lists.{part}
 use Rattle.list_laws.specs.Part.{length-part}
-use Rattle.romfs_spec.specs.Layout.{fullSize, firstRoot, nameLength, nameEnds, fileType, info, next, size, name, contentAt, hasData}
-use Rattle.romfs_spec.specs.Check.{accepted, broken, isReached, check}
+use Rattle.romfs_spec.specs.Layout.{fullSize, firstRoot, nameLength, nameEnds, fileType, info, next, size, contentAt, hasData}
+use Rattle.romfs_spec.specs.Check.{accepted, isReached, check}
 use Rattle.romfs_spec.specs.Requests.{Answer, granted, refused, checked, firstOf, matchIn, isDirectory, findStep, find, Entry, entryAt, entryStep, entry, contentStep, contentLength, content, contentStart}
-use Rattle.romfs_spec.specs.Accepted.{full, ZeroAfter, typeAt, infoAt, nextAt, sizeAt, Named, IsReached, Accepted}
+use Rattle.romfs_spec.specs.Accepted.{full, ZeroAfter, sizeAt, IsReached, Accepted}
 use Rattle.romfs_spec.specs.Statements as book
 use Rattle.romfs_spec.specs.Statements.{Answered, refusal, at31, fits, Directory, FirstGiven, InList, FirstMatch, Finds, FindSays, EntryIs, EntrySays, HasContent, ContentIs, ContentSays}
 use Rattle.romfs_proofs.specs.Tested as test

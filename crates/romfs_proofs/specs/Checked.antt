@@ -9,7 +9,7 @@ use lib.ListN.{length}
 use Rattle.romfs_spec.specs.Layout.{fullSize, nameLength, nameEnds, afterName, firstRoot, fileType, next, info, own}
 use Rattle.romfs_spec.specs.Check.{accepted, broken, tooShort, badMagic, badFullSize, badVolumeSum, badVolumeName, badHeader, badNesting, tooDeep, fault, check}
 use Rattle.romfs_spec.specs.Accepted as plain
-use Rattle.romfs_spec.specs.Accepted.{full, ZeroAfter, SoundVolume, typeAt, nextAt, infoAt, endAt, HasList, RootFirst}
+use Rattle.romfs_spec.specs.Accepted.{SoundVolume, typeAt, nextAt, infoAt, HasList, RootFirst}
 use Rattle.romfs_spec.specs.Statements as book
 use Rattle.romfs_spec.specs.Statements.{HeaderFault, at26, at27, at28, FirstFault, FirstLink, Refused, at21, at22, at23, at24, at25, at-header, at-link}
 use Rattle.romfs_proofs.specs.Tested as test

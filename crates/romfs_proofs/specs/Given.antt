@@ -72,7 +72,6 @@ data-type k = (
 pub record Content (s : List ℕ) (p n : ℕ) : Type 0 where
   pub sound : check s ≡ accepted
   pub reached : IsReached s p
-  pub typed : (fileType s p ≡ 2) ⊎ (fileType s p ≡ 3)
   pub is : n ≡ size s p
   pub inside : contentAt s p + n ≤ fullSize s
   pub full : fullSize s ≤ length s
@@ -96,7 +95,6 @@ content-in s p n e =
     record {
       sound = g .0;
       reached = r;
-      typed = data-type (fileType s p) .0 (and-yes-r (isReached s p) (hasData (fileType s p)) (g .1));
       is = g .2;
       inside = omega (arith, g .2, size-in s p (r .bound) (r .depth) (check-accepted s .0 (g .0) .sound (r .reached)));
       full = full-to s (volume-of s (parts .0));

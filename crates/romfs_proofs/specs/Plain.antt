@@ -9,17 +9,16 @@ use native.Mathlib.Decide.{decLt, ℕ-discrete}
 use borrow.Author.Tests.{ltb-true, ltb-false, lt-ltb, le-ltb, leb-false, lt-leb, eqb-true, eqb-false, eq-eqb, ne-eqb, not-true, not-false}
 use lib.ListN.{length, getD, take}
 use lib.Seq.{ext-getD}
-use lib.Dec.{T, leb, ltb, eqb, eqb→eq, T-not}
+use lib.Dec.{leb, ltb, eqb, eqb→eq, T-not}
 use Rattle.lists.specs.Lists.{sameList, zeroAt, sum, word, part}
 use Rattle.list_laws.specs.Test.{or-no-l, or-no-r, eqb-of, neqb-of, of-true, to-true, same-eq, same-refl}
 use Rattle.list_laws.specs.Least.{least-hit, least-below, least-is}
-use Rattle.list_laws.specs.Sum.{sum-cong}
 use Rattle.list_laws.specs.Part.{getD-part, length-part}
-use Rattle.romfs_spec.specs.Layout.{pad16, fullSize, nameLength, nameEnds, afterName, firstRoot, fileType, executable, next, info, size, name, contentAt, endOf, own, isDots, descends, hasList, hasData, wordSum}
+use Rattle.romfs_spec.specs.Layout.{pad16, fullSize, nameLength, nameEnds, afterName, fileType, executable, next, info, size, name, contentAt, endOf, own, isDots, descends, hasList, hasData, wordSum}
 use Rattle.romfs_spec.specs.Check.{tooShort, badMagic, badFullSize, badVolumeSum, badVolumeName, overBound, badName, badSum, badInfo, badSize, badHeader, badNext, badFirst, badNesting, tooDeep}
-use Rattle.romfs_spec.specs.Accepted.{numberAt, full, SumZero, SomeZero, ZeroAfter, LongEnough, RightMagic, RightFullSize, RightVolumeSum, typeAt, executableAt, nextAt, infoAt, sizeAt, dataAt, endAt, Named, Dots, HasList, OwnBound, last, next as toNext, SoundHeader, Nested, Shallow}
+use Rattle.romfs_spec.specs.Accepted.{numberAt, full, SomeZero, ZeroAfter, LongEnough, RightMagic, RightFullSize, RightVolumeSum, typeAt, executableAt, nextAt, infoAt, sizeAt, dataAt, endAt, Named, Dots, HasList, OwnBound, last, next as toNext, SoundHeader, Nested, Shallow}
 use Rattle.romfs_spec.specs.Statements.{HeaderIs}
-use Rattle.romfs_proofs.specs.Facts.{and-no, or-yes, either, both, and-yes-l, and-yes-r, true-false, own-next, own-last}
+use Rattle.romfs_proofs.specs.Facts.{and-no, or-yes, either, and-yes-l, and-yes-r, true-false, own-next, own-last}
 use Rattle.romfs_proofs.specs.Lowest.{yes-no}
 
 -- ---- numbers

@@ -6,10 +6,10 @@ use mathlib.Core.Bool.{true, false}
 use mathlib.Core.List.{List}
 use native.Mathlib.Omega.{arith}
 use native.Mathlib.Decide.{ℕ-discrete, decLt}
-use Rattle.romfs_spec.specs.Layout.{fullSize, firstRoot, next, info, own, descends, hasList}
+use Rattle.romfs_spec.specs.Layout.{fullSize, firstRoot, next, info, own, hasList}
 use Rattle.romfs_spec.specs.Check.{Verdict, accepted, broken, tooShort, badMagic, badFullSize, badVolumeSum, badVolumeName, fault, andThen, walk, badLink, links, volume, check}
-use Rattle.romfs_proofs.specs.Tested.{Reached, root, along, inside, IsReached, Sound, Linked, Accepted}
-use Rattle.romfs_proofs.specs.Facts.{has-list, room, next-from, next-to, own-next, first-from, first-to, depth-to, true-false, fault-sound, sound-fault, fault-place, fault-number}
+use Rattle.romfs_proofs.specs.Tested.{Reached, IsReached, Sound, Linked, Accepted}
+use Rattle.romfs_proofs.specs.Facts.{room, next-from, next-to, own-next, first-from, first-to, true-false, fault-sound, sound-fault, fault-place, fault-number}
 use Rattle.romfs_proofs.specs.Visit.{From, Cases, same, later, below, cases, lies, not-both, then-accepted}
 use Rattle.romfs_proofs.specs.Lowest.{lowest, Out, fine, fails, out, yes-no}
 use Rattle.romfs_proofs.specs.Walked.{Volume, volume-of, of-volume, root-in, has-root, met, Met, met-reached, all-met, sound, visit-none, visit-root, reached-in}
@@ -187,25 +187,12 @@ pub check-accepted : (s : List ℕ) → (check s ≡ accepted) ↔ Accepted s
 check-accepted s = (accepts s, is-accepted s)
 
 -- ---- what the nesting gives on an accepted image
--- It rules out loops: next and a list that is descended to lie further on,
-pub reached-rises : {s : List ℕ} {p b d : ℕ} → Accepted s → Reached s p b d → (next s p ≢ 0 → p < next s p) × (descends s p ≡ true → info s p ≢ 0 → p < info s p)
-reached-rises {s} {p} {b} {d} a r = (
-  λ z. omega (arith, room s p, next-from s p b d (a .sound r) z),
-  λ t i. omega (arith, room s p, first-from s p b d (a .sound r) (has-list s p t i)),
-)
-
--- .. and a header stands in one list, with one bound and one depth.
+-- a header stands in one list, with one bound and one depth
 pub reached-once : {s : List ℕ} {p b d c e : ℕ} → Accepted s → Reached s p b d → Reached s p c e → (b ≡ c) × (d ≡ e)
 reached-once {s} {p} {b} {d} {c} {e} a q r =
     let parts = check-parts s (is-accepted s a) in
     let v : Volume s = volume-of s (parts .0) in
     once s p (suc p) (firstRoot s) (fullSize s) 1 b d c e (root-in s v (has-root q)) (omega arith) (met s v (parts .1) q) (met s v (parts .1) r)
-
--- The root is depth 1, the deepest list 8.
-pub reached-deep : {s : List ℕ} {p b d : ℕ} → Accepted s → Reached s p b d → d ≤ 8
-reached-deep a (root z) = omega arith
-reached-deep a (along r z) = reached-deep a r
-reached-deep {s} a (inside {p = p} {bound = b} {depth = d} r t i) = omega (arith, depth-to s p b d (a .sound r) (has-list s p t i))
 
 -- when a refusal is given, with its number and its place
 pub data Refused (s : List ℕ) : ℕ → ℕ → Type 0 where
