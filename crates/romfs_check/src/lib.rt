@@ -4,13 +4,12 @@ ghost use mathlib.Core.Bool.{not, _||_};
 ghost use Prim.Native.Nat.{_+_, _-_, _%_, _≤_, _<_, min};
 ghost use lib.Dec.{ltb, eqb};
 ghost use lib.ListN.{length};
-ghost use Rattle.romfs_spec.specs.Check.{badMagic, fault, volume, visitList, visitEntry, walk, leads, towards, seek, isReached, badLink, links, andThen};
+ghost use Rattle.romfs_spec.specs.Check.{badMagic, volume, visitList, visitEntry, visitAll, walk, leads, towards, seek, isReached, badLink, links, andThen};
 ghost use Rattle.romfs_spec.specs.Check as rules;
-ghost use Rattle.romfs_proofs.specs.Tested.{Reached, IsReached};
-ghost use Rattle.romfs_proofs.specs.Links.{linkFault};
+ghost use Rattle.romfs_proofs.specs.Tested.{IsReached};
 ghost use Rattle.romfs_proofs.specs.Walked.{Volume};
 ghost use Rattle.romfs_headers.specs.Known.{Whole};
-ghost use Rattle.romfs_check.specs.Known.{Walked, Lies};
+ghost use Rattle.romfs_check.specs.Known.{Walked, Ready, Here, testOf, Meets, Links};
 ghost use Rattle.romfs_check.specs.Told.{verdictTold};
 ghost use Rattle.romfs_check.specs.Marks.{rowOf, markAt, markTo, Marked};
 use romfs_headers::Step;
@@ -107,68 +106,6 @@ fn mark_to(row: usize, want: usize, marks: &[u32; 2048]) -> usize
         i = i + 1;
     }
     0
-}
-
-// ---- the walk: rules 26 to 28
-
-// A list visits its entries, from its first header on.
-fn walk_list(
-    image: &[u8],
-    full: usize,
-    at: usize,
-    bound: usize,
-    left: usize,
-    marks: &mut [u32; 2048],
-) -> Verdict
-    requires { ⌜ Whole (now image) full × (at < bound) × (bound ≤ full) × (left ≤ 7) × Reached (now image) at bound (8 - left) × Marked (now image) (now marks) ⌝ }
-    ensures { λ r. ⌜ (verdictTold r ≡ visitList (now (image .entry)) (visitEntry (now (image .entry)) (fault (now (image .entry))) left bound) (bound - at) at) × Marked (now (image .entry)) (now (marks .exit)) ⌝ }
-{
-    let mut p = at;
-    loop {
-        match walk_entry(image, full, p, bound, left, marks) {
-            Verdict::Broken(n, q) => {
-                return Verdict::Broken(n, q);
-            }
-            Verdict::Accepted => {
-                let next = romfs_headers::next_of(image, p);
-                if next == 0 {
-                    return Verdict::Accepted;
-                }
-                p = next;
-            }
-        }
-    }
-}
-
-// An entry, then its list.
-fn walk_entry(
-    image: &[u8],
-    full: usize,
-    p: usize,
-    bound: usize,
-    left: usize,
-    marks: &mut [u32; 2048],
-) -> Verdict
-    requires { ⌜ Whole (now image) full × (p < bound) × (bound ≤ full) × (left ≤ 7) × Reached (now image) p bound (8 - left) × Marked (now image) (now marks) ⌝ }
-    ensures { λ r. ⌜ (verdictTold r ≡ visitEntry (now (image .entry)) (fault (now (image .entry))) left bound p) × Marked (now (image .entry)) (now (marks .exit)) ⌝ }
-{
-    mark(full, p, left, marks);
-    match romfs_headers::read_entry(image, full, bound, left, p) {
-        Step::Broken(n) => Verdict::Broken(n, p as u32),
-        Step::Leaf => Verdict::Accepted,
-        Step::List(first, own) => walk_list(image, full, first, own, left - 1, marks),
-    }
-}
-
-fn check_walk(image: &[u8], full: usize, marks: &mut [u32; 2048]) -> Verdict
-    requires { ⌜ Whole (now image) full × Volume (now image) × Marked (now image) (now marks) ⌝ }
-    ensures { λ r. ⌜ (verdictTold r ≡ walk (now (image .entry))) × Marked (now (image .entry)) (now (marks .exit)) ⌝ }
-{
-    let first = romfs_headers::first_root(image, full);
-    if first == full {
-        return Verdict::Accepted;
-    }
-    walk_list(image, full, first, full, 7, marks)
 }
 
 // ---- reached headers
@@ -273,45 +210,64 @@ fn bad_link(image: &[u8], full: usize, p: usize, marks: &[u32; 2048]) -> bool
     !is_reached_by(image, full, to, marks)
 }
 
-// The list of an entry: its first header and its bound.
-enum Below {
-    Nothing,
-    List(usize, usize),
-}
+// ---- the walk: once for rules 26 to 28, and once more for the links
 
-fn below_entry(image: &[u8], full: usize, bound: usize, p: usize) -> Below
-    requires { ⌜ Whole (now image) full × (p + 32 ≤ full) ⌝ }
-    ensures { λ r. ⌜ Lies (now (image .entry)) bound p r ⌝ }
+// Rule 29 at a header: its fault, or its list, or nothing to descend to.
+fn link_step(image: &[u8], full: usize, p: usize, bound: usize, marks: &[u32; 2048]) -> Step
+    requires { ⌜ Walked (now image) full × (p + 32 ≤ full) × Marked (now image) (now marks) ⌝ }
+    ensures { λ r. ⌜ Links (now (image .entry)) bound p r ⌝ }
 {
+    if bad_link(image, full, p, marks) {
+        return Step::Broken(29);
+    }
     let n = romfs_headers::name_length(image, p + 16, full);
     if !romfs_headers::goes_down(image, full, n, p) {
-        return Below::Nothing;
+        return Step::Leaf;
     }
     let first = romfs_headers::info_of(image, p);
     if first == 0 {
-        return Below::Nothing;
+        return Step::Leaf;
     }
-    Below::List(
-        first,
-        romfs_headers::own_bound(romfs_headers::next_of(image, p), bound),
-    )
+    let next = romfs_headers::next_of(image, p);
+    Step::List(first, romfs_headers::own_bound(next, bound))
 }
 
-// The walk once more, for the links.
-fn links_list(
+// What the walk meets at a header. The first walk marks it and tests rules 26 to 28, the second tests rule 29.
+fn step_at(
+    image: &[u8],
+    full: usize,
+    p: usize,
+    bound: usize,
+    left: usize,
+    links: bool,
+    marks: &mut [u32; 2048],
+) -> Step
+    requires { ⌜ Here (now image) full p bound left links × Marked (now image) (now marks) ⌝ }
+    ensures { λ r. ⌜ Meets (testOf (now (image .entry)) links) (now (image .entry)) bound left p r × Marked (now (image .entry)) (now (marks .exit)) ⌝ }
+{
+    if links {
+        return link_step(image, full, p, bound, marks);
+    }
+    mark(full, p, left, marks);
+    romfs_headers::read_entry(image, full, bound, left, p)
+}
+
+// A list visits its entries, from its first header on.
+fn walk_list(
     image: &[u8],
     full: usize,
     at: usize,
     bound: usize,
     left: usize,
-    marks: &[u32; 2048],
+    links: bool,
+    marks: &mut [u32; 2048],
 ) -> Verdict
-    requires { ⌜ Walked (now image) full × (left ≤ 7) × Reached (now image) at bound (8 - left) × Marked (now image) (now marks) ⌝ }
-    ensures { λ r. ⌜ verdictTold r ≡ visitList (now (image .entry)) (visitEntry (now (image .entry)) (linkFault (now (image .entry))) left bound) (bound - at) at ⌝ }
+    requires { ⌜ Here (now image) full at bound left links × Marked (now image) (now marks) ⌝ }
+    ensures { λ r. ⌜ (verdictTold r ≡ visitList (now (image .entry)) (visitEntry (now (image .entry)) (testOf (now (image .entry)) links) left bound) (bound - at) at) × Marked (now (image .entry)) (now (marks .exit)) ⌝ }
 {
     let mut p = at;
     loop {
-        match links_entry(image, full, p, bound, left, marks) {
+        match walk_entry(image, full, p, bound, left, links, marks) {
             Verdict::Broken(n, q) => {
                 return Verdict::Broken(n, q);
             }
@@ -326,35 +282,36 @@ fn links_list(
     }
 }
 
-fn links_entry(
+// An entry, then its list.
+fn walk_entry(
     image: &[u8],
     full: usize,
     p: usize,
     bound: usize,
     left: usize,
-    marks: &[u32; 2048],
+    links: bool,
+    marks: &mut [u32; 2048],
 ) -> Verdict
-    requires { ⌜ Walked (now image) full × (left ≤ 7) × Reached (now image) p bound (8 - left) × Marked (now image) (now marks) ⌝ }
-    ensures { λ r. ⌜ verdictTold r ≡ visitEntry (now (image .entry)) (linkFault (now (image .entry))) left bound p ⌝ }
+    requires { ⌜ Here (now image) full p bound left links × Marked (now image) (now marks) ⌝ }
+    ensures { λ r. ⌜ (verdictTold r ≡ visitEntry (now (image .entry)) (testOf (now (image .entry)) links) left bound p) × Marked (now (image .entry)) (now (marks .exit)) ⌝ }
 {
-    if bad_link(image, full, p, marks) {
-        return Verdict::Broken(29, p as u32);
-    }
-    match below_entry(image, full, bound, p) {
-        Below::Nothing => Verdict::Accepted,
-        Below::List(first, own) => links_list(image, full, first, own, left - 1, marks),
+    match step_at(image, full, p, bound, left, links, marks) {
+        Step::Broken(n) => Verdict::Broken(n, p as u32),
+        Step::Leaf => Verdict::Accepted,
+        Step::List(first, own) => walk_list(image, full, first, own, left - 1, links, marks),
     }
 }
 
-fn check_links(image: &[u8], full: usize, marks: &[u32; 2048]) -> Verdict
-    requires { ⌜ Walked (now image) full × Marked (now image) (now marks) ⌝ }
-    ensures { λ r. ⌜ verdictTold r ≡ links (now (image .entry)) ⌝ }
+// The whole image.
+fn walk_all(image: &[u8], full: usize, links: bool, marks: &mut [u32; 2048]) -> Verdict
+    requires { ⌜ Ready (now image) full links × Marked (now image) (now marks) ⌝ }
+    ensures { λ r. ⌜ (verdictTold r ≡ visitAll (now (image .entry)) (testOf (now (image .entry)) links)) × Marked (now (image .entry)) (now (marks .exit)) ⌝ }
 {
     let first = romfs_headers::first_root(image, full);
     if first == full {
         return Verdict::Accepted;
     }
-    links_list(image, full, first, full, 7, marks)
+    walk_list(image, full, first, full, 7, links, marks)
 }
 
 // ---- requests
@@ -366,9 +323,9 @@ fn check_headers(image: &[u8]) -> Verdict
 {
     let full = romfs_headers::full_size(image);
     let mut marks = [0u32; 2048];
-    match check_walk(image, full, &mut marks) {
+    match walk_all(image, full, false, &mut marks) {
         Verdict::Broken(n, q) => Verdict::Broken(n, q),
-        Verdict::Accepted => check_links(image, full, &marks),
+        Verdict::Accepted => walk_all(image, full, true, &mut marks),
     }
 }
 
