@@ -69,7 +69,7 @@ typedef struct romfs_result {
 typedef struct romfs_header {
     uint32_t refusal;
     uint32_t place;
-    uint32_t type;        /* an enum romfs_type */
+    uint32_t file_type;   /* an enum romfs_type */
     uint32_t executable;  /* 1 or 0 */
     uint32_t info;        /* spec.info: a directory's first header, a hard link's target, a device's numbers */
     uint32_t size;        /* bytes of content */

@@ -3,11 +3,11 @@
 use packed::lines::number;
 use packed::lines::text;
 use packed::lines::totals;
+use romfs::CheckAnswer;
 use romfs::ContentAnswer;
 use romfs::EntryAnswer;
+use romfs::Fault;
 use romfs::FindAnswer;
-use romfs_check::CheckAnswer;
-use romfs_check::Fault;
 
 // A refusal with its place.
 struct Verdict {
@@ -71,13 +71,13 @@ fn of_find(a: FindAnswer, name_length: u32) -> Place {
 fn of_entry(a: EntryAnswer) -> [u32; 6] {
     match a {
         EntryAnswer::Entry {
-            kind,
+            file_type,
             executable,
             info,
             size,
             next,
             name_length,
-        } => [kind, executable, info, size, next, name_length],
+        } => [file_type, executable, info, size, next, name_length],
         EntryAnswer::Refused(_) => [1000, 0, 0, 0, 0, 0],
         EntryAnswer::Inconsistent(_) => [1000, 0, 0, 0, 0, 0],
     }

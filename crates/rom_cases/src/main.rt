@@ -7,11 +7,11 @@ use packed::cases::done;
 use packed::cases::granted;
 use packed::cases::one;
 use packed::cases::refused;
+use romfs::CheckAnswer;
 use romfs::ContentAnswer;
 use romfs::EntryAnswer;
+use romfs::Fault;
 use romfs::FindAnswer;
-use romfs_check::CheckAnswer;
-use romfs_check::Fault;
 
 // ---- what the requests give
 
@@ -40,13 +40,13 @@ fn of_find(a: FindAnswer) -> Outcome {
 fn of_entry(a: EntryAnswer) -> Outcome {
     match a {
         EntryAnswer::Entry {
-            kind,
+            file_type,
             executable,
             info,
             size,
             next,
             name_length,
-        } => granted(6, [kind, executable, info, size, next, name_length]),
+        } => granted(6, [file_type, executable, info, size, next, name_length]),
         EntryAnswer::Refused(n) => refused(n, 0),
         EntryAnswer::Inconsistent(f) => of_fault(f),
     }

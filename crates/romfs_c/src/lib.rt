@@ -1,16 +1,15 @@
 // The romfs requests for C. The header is romfs.h; a slice passes as a pointer and then a length.
 ghost use mathlib.Core.Path.{_≡_};
-ghost use Rattle.romfs_spec.specs.Layout.{contentAt};
 ghost use Rattle.romfs_spec.specs.Check as rules;
-ghost use Rattle.romfs_spec.specs.Answers as answers;
-ghost use Rattle.romfs_spec.specs.Answers.{checked, granted};
-ghost use Rattle.romfs.specs.Told.{toldUnsound, toldFind, toldEntry, toldContent};
+ghost use Rattle.romfs_spec.specs.Requests as requests;
+ghost use Rattle.romfs_spec.specs.Requests.{checked, granted, refused};
+ghost use Rattle.romfs.specs.Told.{faultAnswer, findTold, entryTold, partTold, partStart};
 ghost use Rattle.romfs_c.specs.Result.{checkedAnswer, resultOf, headerOf, contentOf, Tells, TellsHeader, TellsPart};
-use romfs::ContentAnswer;
+use romfs::CheckAnswer;
 use romfs::EntryAnswer;
+use romfs::Fault;
 use romfs::FindAnswer;
-use romfs_check::CheckAnswer;
-use romfs_check::Fault;
+use romfs::PartAnswer;
 
 // The refusal's number, 0 for granted; its place; the value granted.
 #[repr(C)]
@@ -20,17 +19,17 @@ pub struct RomfsResult {
     pub value: u32,
 }
 
-// The refusal and its place; the fields of the entry. The header calls kind type, and namelen name_length.
+// The refusal and its place; the fields of the entry.
 #[repr(C)]
 pub struct RomfsHeader {
     pub refusal: u32,
     pub place: u32,
-    pub kind: u32,
+    pub file_type: u32,
     pub executable: u32,
     pub info: u32,
     pub size: u32,
     pub next: u32,
-    pub namelen: u32,
+    pub name_length: u32,
 }
 
 // The refusal and its place; where the content begins, and its length.
@@ -45,7 +44,7 @@ pub struct RomfsPart {
 // ---- check and find
 
 fn of_fault(f: Fault) -> RomfsResult
-    ensures { λ r. ⌜ Tells r (toldUnsound f) ⌝ }
+    ensures { λ r. ⌜ Tells r (faultAnswer f) ⌝ }
 {
     match f {
         Fault::Volume(n) => RomfsResult {
@@ -83,7 +82,7 @@ pub extern "C" fn romfs_check(image: &[u8]) -> RomfsResult
 }
 
 fn of_find(a: FindAnswer) -> RomfsResult
-    ensures { λ r. ⌜ Tells r (toldFind a) ⌝ }
+    ensures { λ r. ⌜ Tells r (findTold a) ⌝ }
 {
     match a {
         FindAnswer::Found(p) => RomfsResult {
@@ -103,7 +102,7 @@ fn of_find(a: FindAnswer) -> RomfsResult
 // The header of a name in the list of a directory; 0 is the root list.
 #[no_mangle]
 pub extern "C" fn romfs_find(image: &[u8], directory: u32, name: &[u8]) -> RomfsResult
-    ensures { λ r. ⌜ r ≡ resultOf (answers.find (now (image .entry)) directory (now (name .entry))) ⌝ }
+    ensures { λ r. ⌜ r ≡ resultOf (requests.find (now (image .entry)) directory (now (name .entry))) ⌝ }
 {
     of_find(romfs::find(image, directory, name))
 }
@@ -111,22 +110,22 @@ pub extern "C" fn romfs_find(image: &[u8], directory: u32, name: &[u8]) -> Romfs
 // ---- entry
 
 fn no_header(refusal: u32, place: u32) -> RomfsHeader
-    ensures { λ r. ⌜ TellsHeader r (answers.denied refusal place) ⌝ }
+    ensures { λ r. ⌜ TellsHeader r (refused refusal place) ⌝ }
 {
     RomfsHeader {
         refusal: refusal,
         place: place,
-        kind: 0,
+        file_type: 0,
         executable: 0,
         info: 0,
         size: 0,
         next: 0,
-        namelen: 0,
+        name_length: 0,
     }
 }
 
 fn fault_header(f: Fault) -> RomfsHeader
-    ensures { λ r. ⌜ TellsHeader r (toldUnsound f) ⌝ }
+    ensures { λ r. ⌜ TellsHeader r (faultAnswer f) ⌝ }
 {
     match f {
         Fault::Volume(n) => no_header(n, 0),
@@ -135,13 +134,13 @@ fn fault_header(f: Fault) -> RomfsHeader
 }
 
 fn of_entry(a: EntryAnswer) -> RomfsHeader
-    ensures { λ r. ⌜ TellsHeader r (toldEntry a) ⌝ }
+    ensures { λ r. ⌜ TellsHeader r (entryTold a) ⌝ }
 {
     match a {
         EntryAnswer::Refused(n) => no_header(n, 0),
         EntryAnswer::Inconsistent(f) => fault_header(f),
         EntryAnswer::Entry {
-            kind,
+            file_type,
             executable,
             info,
             size,
@@ -150,12 +149,12 @@ fn of_entry(a: EntryAnswer) -> RomfsHeader
         } => RomfsHeader {
             refusal: 0,
             place: 0,
-            kind: kind,
+            file_type: file_type,
             executable: executable,
             info: info,
             size: size,
             next: next,
-            namelen: name_length,
+            name_length: name_length,
         },
     }
 }
@@ -163,7 +162,7 @@ fn of_entry(a: EntryAnswer) -> RomfsHeader
 // The entry at a header.
 #[no_mangle]
 pub extern "C" fn romfs_entry(image: &[u8], at: u32) -> RomfsHeader
-    ensures { λ r. ⌜ r ≡ headerOf (answers.entry (now (image .entry)) at) ⌝ }
+    ensures { λ r. ⌜ r ≡ headerOf (requests.entry (now (image .entry)) at) ⌝ }
 {
     of_entry(romfs::entry(image, at))
 }
@@ -171,7 +170,7 @@ pub extern "C" fn romfs_entry(image: &[u8], at: u32) -> RomfsHeader
 // ---- content
 
 fn no_part(f: Fault) -> RomfsPart
-    ensures { λ r. ⌜ TellsPart r 0 (toldUnsound f) ⌝ }
+    ensures { λ r. ⌜ TellsPart r 0 (faultAnswer f) ⌝ }
 {
     match f {
         Fault::Volume(n) => RomfsPart {
@@ -189,23 +188,22 @@ fn no_part(f: Fault) -> RomfsPart
     }
 }
 
-fn of_content(image: &[u8], at: u32, a: ContentAnswer) -> RomfsPart
-    requires { ⌜ toldContent a ≡ answers.contentLength (now image) at ⌝ }
-    ensures { λ r. ⌜ TellsPart r (contentAt (now (image .entry)) at) (toldContent a) ⌝ }
+fn of_part(a: PartAnswer) -> RomfsPart
+    ensures { λ r. ⌜ TellsPart r (partStart a) (partTold a) ⌝ }
 {
     match a {
-        ContentAnswer::Refused(n) => RomfsPart {
+        PartAnswer::Refused(n) => RomfsPart {
             refusal: n,
             place: 0,
             offset: 0,
             length: 0,
         },
-        ContentAnswer::Inconsistent(f) => no_part(f),
-        ContentAnswer::Length(n) => RomfsPart {
+        PartAnswer::Inconsistent(f) => no_part(f),
+        PartAnswer::Part { offset, length } => RomfsPart {
             refusal: 0,
             place: 0,
-            offset: romfs::content_start(image, at as usize, n as usize) as u32,
-            length: n,
+            offset: offset,
+            length: length,
         },
     }
 }
@@ -213,7 +211,7 @@ fn of_content(image: &[u8], at: u32, a: ContentAnswer) -> RomfsPart
 // Where the content of a file lies in the image.
 #[no_mangle]
 pub extern "C" fn romfs_content(image: &[u8], at: u32) -> RomfsPart
-    ensures { λ r. ⌜ r ≡ contentOf (contentAt (now (image .entry)) at) (answers.contentLength (now (image .entry)) at) ⌝ }
+    ensures { λ r. ⌜ r ≡ contentOf (requests.contentStart (now (image .entry)) at) (requests.contentLength (now (image .entry)) at) ⌝ }
 {
-    of_content(image, at, romfs::content_length(image, at))
+    of_part(romfs::content_part(image, at))
 }

@@ -1,34 +1,27 @@
 -- Laws of the walks, one for each way that the code takes.
 use Prim.Native.Nat.{ℕ, suc, _+_, _-_, _/_, _%_, _≤_, _<_, min}
 use mathlib.Core.Path.{_≡_, refl, sym, ap, subst, _∙_}
-use mathlib.Core.Logic.{_≢_}
 use mathlib.Core.Bool.{Bool, true, false, not, _&&_, _||_}
 use mathlib.Core.List.{List}
 use native.Mathlib.Omega.{arith}
 use borrow.Author.Tests.{eq-eqb, ne-eqb, lt-ltb, le-ltb, ltb-false}
 use lib.Dec.{ltb, eqb}
 use lib.ListN.{length}
-use Rattle.romfs_spec.specs.Layout.{fullSize, firstRoot, nameLength, nameEnds, wordSum, kind, next, info, own, isDots, hasList}
-use Rattle.romfs_spec.specs.Rules as rules
-use Rattle.romfs_spec.specs.Rules.{Verdict, accepted, refused, short21, magic22, size23, sum24, name25}
-use Rattle.romfs_spec.specs.Reached.{Reached, root, along, inside, IsReached, Sound}
-use Rattle.romfs_spec.specs.Check.{andThen, visitList, visitEntry, visitAll, walk, volume, links, check, leads, towards, seek, isReached, badLink}
+use Rattle.romfs_spec.specs.Layout.{fullSize, firstRoot, nameLength, nameEnds, wordSum, fileType, next, info, own, isDots, hasList}
+use Rattle.romfs_spec.specs.Check as rules
+use Rattle.romfs_spec.specs.Check.{Verdict, accepted, broken, tooShort, badMagic, badFullSize, badVolumeSum, badVolumeName, andThen, visitList, visitEntry, visitAll, walk, volume, links, check, leads, towards, seek, isReached, badLink}
+use Rattle.romfs_proofs.specs.Tested.{Reached, root, along, inside, IsReached, Sound}
 use Rattle.list_laws.specs.Test.{or-no-l, or-no-r}
-use Rattle.romfs_proofs.specs.Facts.{room, ends, next-from, next-to, own-to, first-to, depth-to, fault-sound, fault-number, list-descends, list-first}
+use Rattle.romfs_proofs.specs.Facts.{room, ends, own-to, first-to, depth-to, fault-sound, list-descends, list-first}
 use Rattle.romfs_proofs.specs.Visit.{list-refused, list-last, list-next, entry-refused, entry-leaf, entry-list, entry-test}
-use Rattle.romfs_proofs.specs.Walked.{Volume, full-from, full-to, root-to, visit-none, visit-root, sound, reached-in, reached-room}
+use Rattle.romfs_proofs.specs.Walked.{Volume, root-to, visit-none, visit-root, sound}
 use Rattle.romfs_proofs.specs.Links.{linkFault}
 use Rattle.romfs_proofs.specs.Seek.{seek-here, seek-none, seek-on, seek-reached, reached-is, is-none, is-seek, towards-reached, towards-further}
 use Rattle.romfs_headers.specs.Known.{Whole, Reads, stepOf, step-reads}
-use Rattle.romfs_check.specs.Known.{Walked, Lies}
+use Rattle.romfs_check.specs.Known.{Walked, Here, testOf, Meets, Links}
 use Rattle.romfs_check.specs.Facts.{reach-room, sound-next}
-use Rattle.romfs_check.specs.declared.Below.{Below}
-use Rattle.romfs_check.specs.declared.Below.the-variants as below
 use Rattle.romfs_headers.specs.declared.Step.{Step}
 use Rattle.romfs_headers.specs.declared.Step.the-variants as step
-use Rattle.romfs_check.specs.Told.{toldFault}
-use Rattle.romfs_check.specs.declared.Fault.{Fault}
-use Rattle.romfs_check.specs.declared.Fault.the-variants as fault
 
 -- ---- the walk
 -- the list from at on is what is left of it from p on, at some fuel that is enough
@@ -41,9 +34,8 @@ pub rest-all : (s : List ℕ) (test : ℕ → ℕ → ℕ → Verdict) (left bou
 rest-all s test left bound at = record { fuel = bound - at; enough = omega arith; same = refl }
 
 module _ (s : List ℕ) (test : ℕ → ℕ → ℕ → Verdict) (left bound at p : ℕ) (r : Rest s test left bound at p) (h : p < bound) where
-  pub rest-fault : (x : Fault) → toldFault x ≡ visitEntry s test left bound p → toldFault x ≡ visitList s (visitEntry s test left bound) (bound - at) at
-  rest-fault (fault.Volume n) e = sym (r .same ∙ list-refused s (visitEntry s test left bound) (r .fuel) p n 0 (omega (arith, r .enough)) (sym e))
-  rest-fault (fault.Header n q) e = sym (r .same ∙ list-refused s (visitEntry s test left bound) (r .fuel) p n q (omega (arith, r .enough)) (sym e))
+  pub rest-fault : (n q : ℕ) → broken n q ≡ visitEntry s test left bound p → broken n q ≡ visitList s (visitEntry s test left bound) (bound - at) at
+  rest-fault n q e = sym (r .same ∙ list-refused s (visitEntry s test left bound) (r .fuel) p n q (omega (arith, r .enough)) (sym e))
 
   pub rest-last : accepted ≡ visitEntry s test left bound p → next s p ≡ 0 → accepted ≡ visitList s (visitEntry s test left bound) (bound - at) at
   rest-last e z = sym (r .same ∙ list-last s (visitEntry s test left bound) (r .fuel) p (omega (arith, r .enough)) (sym e) z)
@@ -54,13 +46,6 @@ module _ (s : List ℕ) (test : ℕ → ℕ → ℕ → Verdict) (left bound at 
     enough = omega (arith, r .enough);
     same = r .same ∙ list-next s (visitEntry s test left bound) (r .fuel) p (omega (arith, r .enough)) (sym e) (λ y. z (f ∙ y)) ∙ ap (visitList s (visitEntry s test left bound) (r .fuel - 1)) (sym f);
   }
-
--- an accepted entry is sound
-pub walked-sound : (s : List ℕ) (left bound p : ℕ) → left ≤ 7 → accepted ≡ visitEntry s (rules.fault s) left bound p → Sound s p bound (8 - left)
-walked-sound s left bound p l e = fault-sound s p bound (8 - left) (entry-test s (rules.fault s) bound p left (8 - left) (omega arith) (sym e))
-
-pub sound-room : (s : List ℕ) (bound d p : ℕ) → Sound s p bound d → p + 32 ≤ bound
-sound-room s bound d p h = omega (arith, room s p, ends s p bound d h)
 
 -- the next of a reached header is reached
 pub reached-next : (s : List ℕ) (bound depth p : ℕ) → Reached s p bound depth → (q : ℕ) → q ≡ next s p → (q ≡ 0 → ⊥) → Reached s q bound depth
@@ -73,78 +58,124 @@ reached-below s bound left p l m r f o t e g =
     rw (d, e, g) (inside r (list-descends s p t) (list-first s p t))
 
 -- ---- a step
-pub reads-of : (s : List ℕ) (bound left p : ℕ) {a b : Step} → a ≡ b → a ≡ stepOf s bound left p → Reads s bound left p b
-reads-of s bound left p {a} {b} e h = step-reads s bound left p b (sym e ∙ h)
+first-reads : (s : List ℕ) (bound left p : ℕ) (x : Step) → Reads s bound left p x → Meets (rules.fault s) s bound left p x
+first-reads s bound left p (step.Broken n) r = r
+first-reads s bound left p step.Leaf r = r
+first-reads s bound left p (step.List f o) r = r
 
-pub step-number : (s : List ℕ) (bound left p n : ℕ) → Reads s bound left p (step.Broken n) → (26 ≤ n) × (n ≤ 28)
-step-number s bound left p n r = fault-number s p bound (8 - left) n p r
+pub first-meets : (s : List ℕ) (bound left p : ℕ) (links : Bool) (x : Step) → links ≡ false → x ≡ stepOf s bound left p → Meets (testOf s links) s bound left p x
+first-meets s bound left p links x e h = subst (λ (t : Bool). Meets (testOf s t) s bound left p x) (sym e) (first-reads s bound left p x (step-reads s bound left p x h))
 
-module _ (s : List ℕ) (bound left p : ℕ) (l : left ≤ 7) where
-  pub step-broken : (n : ℕ) → Reads s bound left p (step.Broken n) → refused n p ≡ visitEntry s (rules.fault s) left bound p
-  step-broken n r = sym (entry-refused s (rules.fault s) bound p left (8 - left) n p (omega arith) r)
+link-fine : (s : List ℕ) (bound d p : ℕ) → badLink s p ≡ false → linkFault s bound d p ≡ accepted
+unfolding linkFault
+link-fine s bound d p b = rw b
 
-  pub step-leaf : Reads s bound left p step.Leaf → accepted ≡ visitEntry s (rules.fault s) left bound p
-  step-leaf r = sym (entry-leaf s (rules.fault s) bound p left (8 - left) (omega arith) (r .0) (r .1))
+link-bad : (s : List ℕ) (bound d p n : ℕ) → n ≡ 29 → badLink s p ≡ true → linkFault s bound d p ≡ broken n p
+unfolding linkFault
+link-bad s bound d p n e b = rw (b, e)
 
-  -- where the list of an entry lies
-  pub step-in : (f o : ℕ) → Reads s bound left p (step.List f o) → (f < o) × (o ≤ bound) × (1 ≤ left)
-  step-in f o r =
-      let h : Sound s p bound (8 - left) = fault-sound s p bound (8 - left) (r .0) in
-      let t : hasList s p ≡ true = r .1 in
-      omega (arith, first-to s p bound (8 - left) h t, own-to s p bound (8 - left) h, depth-to s p bound (8 - left) h t, r .2, r .3)
+links-meet : (s : List ℕ) (bound left p : ℕ) (x : Step) → Links s bound p x → Meets (linkFault s) s bound left p x
+links-meet s bound left p (step.Broken n) h = link-bad s bound (8 - left) p n (h .0) (h .1)
+links-meet s bound left p step.Leaf h = (link-fine s bound (8 - left) p (h .0), h .1)
+links-meet s bound left p (step.List f o) h = (link-fine s bound (8 - left) p (h .0), h .1, h .2, h .3)
 
-  pub step-reached : (f o : ℕ) → Reads s bound left p (step.List f o) → Reached s p bound (8 - left) → Reached s f o (8 - (left - 1))
-  step-reached f o r h = reached-below s bound left p l (step-in f o r .2) h f o (r .1) (r .2) (r .3)
+pub second-meets : (s : List ℕ) (bound left p : ℕ) (links : Bool) (x : Step) → links ≡ true → Links s bound p x → Meets (testOf s links) s bound left p x
+second-meets s bound left p links x e h = subst (λ (t : Bool). Meets (testOf s t) s bound left p x) (sym e) (links-meet s bound left p x h)
 
-  pub step-list : (f o : ℕ) → Reads s bound left p (step.List f o) → visitList s (visitEntry s (rules.fault s) (left - 1) o) (o - f) f ≡ visitEntry s (rules.fault s) left bound p
-  step-list f o r =
-      let k = step-in f o r in
-      rw (r .2, r .3) (sym (entry-list s (rules.fault s) bound p left (8 - left) (omega arith) (omega arith) (r .0) (r .1)))
+pub meets-by : (test : ℕ → ℕ → ℕ → Verdict) (s : List ℕ) (bound left p : ℕ) {a b : Step} → a ≡ b → Meets test s bound left p a → Meets test s bound left p b
+meets-by test s bound left p e h = subst (Meets test s bound left p) e h
+
+module _ (s : List ℕ) (full p bound left : ℕ) where
+  tested-sound : (links : Bool) → Here s full p bound left links → testOf s links bound (8 - left) p ≡ accepted → Sound s p bound (8 - left)
+  tested-sound true h e = let w = h .ready .walked refl in sound s (w .volume) (w .walked) (h .reached)
+  tested-sound false h e = fault-sound s p bound (8 - left) e
+
+  module _ (links : Bool) (h : Here s full p bound left links) where
+    pub step-broken : (n : ℕ) → Meets (testOf s links) s bound left p (step.Broken n) → broken n p ≡ visitEntry s (testOf s links) left bound p
+    step-broken n r = sym (entry-refused s (testOf s links) bound p left (8 - left) n p (omega arith) r)
+
+    pub step-leaf : Meets (testOf s links) s bound left p step.Leaf → accepted ≡ visitEntry s (testOf s links) left bound p
+    step-leaf r = sym (entry-leaf s (testOf s links) bound p left (8 - left) (omega arith) (r .0) (r .1))
+
+    -- the list of an entry
+    module _ (f o : ℕ) (r : Meets (testOf s links) s bound left p (step.List f o)) where
+      here-sound : Sound s p bound (8 - left)
+      here-sound = tested-sound links h (r .0)
+
+      pub some-left : 1 ≤ left
+      some-left = omega (arith, depth-to s p bound (8 - left) here-sound (r .1))
+
+      pub step-below : Here s full f o (left - 1) links
+      step-below = record {
+        ready = h .ready;
+        before = omega (arith, first-to s p bound (8 - left) here-sound (r .1), r .2, r .3);
+        within = omega (arith, own-to s p bound (8 - left) here-sound, r .3);
+        deep = omega arith;
+        reached = reached-below s bound left p (h .deep) some-left (h .reached) f o (r .1) (r .2) (r .3);
+      }
+
+      pub step-list : visitList s (visitEntry s (testOf s links) (left - 1) o) (o - f) f ≡ visitEntry s (testOf s links) left bound p
+      step-list =
+          let k = some-left in
+          rw (r .2, r .3) (sym (entry-list s (testOf s links) bound p left (8 - left) (omega arith) (omega arith) (r .0) (r .1)))
+
+    -- an accepted entry
+    module _ (e : accepted ≡ visitEntry s (testOf s links) left bound p) where
+      visited-sound : Sound s p bound (8 - left)
+      visited-sound = tested-sound links h (entry-test s (testOf s links) bound p left (8 - left) (omega arith) (sym e))
+
+      pub visited-room : p + 32 ≤ bound
+      visited-room = omega (arith, room s p, ends s p bound (8 - left) visited-sound)
+
+      pub visited-next : (q : ℕ) → q ≡ next s p → (q ≡ 0 → ⊥) → (p < q) × Here s full q bound left links
+      visited-next q f z =
+          let k = sound-next s bound (8 - left) p q visited-sound f z in
+          (k .0, record { ready = h .ready; before = k .1; within = h .within; deep = h .deep; reached = reached-next s bound (8 - left) p (h .reached) q f z })
 
 -- ---- rules 21 to 25
 module _ (s : List ℕ) where
-  pub volume-21 : length s < 32 → refused 21 0 ≡ volume s
-  unfolding volume short21
+  pub volume-21 : length s < 32 → broken 21 0 ≡ volume s
+  unfolding volume tooShort
   volume-21 a = rw (lt-ltb (length s) 32 a)
 
-  pub volume-22 : 32 ≤ length s → magic22 s ≡ true → refused 22 0 ≡ volume s
-  unfolding volume short21
+  pub volume-22 : 32 ≤ length s → badMagic s ≡ true → broken 22 0 ≡ volume s
+  unfolding volume tooShort
   volume-22 a b = rw (le-ltb (length s) 32 a, b)
 
-  pub volume-23 : 32 ≤ length s → magic22 s ≡ false → size23 s ≡ true → refused 23 0 ≡ volume s
-  unfolding volume short21
+  pub volume-23 : 32 ≤ length s → badMagic s ≡ false → badFullSize s ≡ true → broken 23 0 ≡ volume s
+  unfolding volume tooShort
   volume-23 a b c = rw (le-ltb (length s) 32 a, b, c)
 
-  pub volume-24 : 32 ≤ length s → magic22 s ≡ false → size23 s ≡ false → sum24 s ≡ true → refused 24 0 ≡ volume s
-  unfolding volume short21
+  pub volume-24 : 32 ≤ length s → badMagic s ≡ false → badFullSize s ≡ false → badVolumeSum s ≡ true → broken 24 0 ≡ volume s
+  unfolding volume tooShort
   volume-24 a b c d = rw (le-ltb (length s) 32 a, b, c, d)
 
-  pub volume-25 : 32 ≤ length s → magic22 s ≡ false → size23 s ≡ false → sum24 s ≡ false → name25 s ≡ true → refused 25 0 ≡ volume s
-  unfolding volume short21
+  pub volume-25 : 32 ≤ length s → badMagic s ≡ false → badFullSize s ≡ false → badVolumeSum s ≡ false → badVolumeName s ≡ true → broken 25 0 ≡ volume s
+  unfolding volume tooShort
   volume-25 a b c d e = rw (le-ltb (length s) 32 a, b, c, d, e)
 
-  pub volume-fine : 32 ≤ length s → magic22 s ≡ false → size23 s ≡ false → sum24 s ≡ false → name25 s ≡ false → accepted ≡ volume s
-  unfolding volume short21
+  pub volume-fine : 32 ≤ length s → badMagic s ≡ false → badFullSize s ≡ false → badVolumeSum s ≡ false → badVolumeName s ≡ false → accepted ≡ volume s
+  unfolding volume tooShort
   volume-fine a b c d e = rw (le-ltb (length s) 32 a, b, c, d, e)
 
-  pub size-test : (r : Bool) (full len : ℕ) → r ≡ (ltb full 32 || (ltb len full || not (eqb (full % 16) 0))) → full ≡ fullSize s → len ≡ length s → r ≡ size23 s
-  unfolding size23
+  pub size-test : (r : Bool) (full len : ℕ) → r ≡ (ltb full 32 || (ltb len full || not (eqb (full % 16) 0))) → full ≡ fullSize s → len ≡ length s → r ≡ badFullSize s
+  unfolding badFullSize
   size-test r full len h e f = rw (← e, ← f) h
 
-  pub sum-test : (r m full : ℕ) → r ≡ wordSum s 0 (m / 4) → m ≡ min 512 full → full ≡ fullSize s → not (eqb r 0) ≡ sum24 s
-  unfolding sum24
+  pub sum-test : (r m full : ℕ) → r ≡ wordSum s 0 (m / 4) → m ≡ min 512 full → full ≡ fullSize s → not (eqb r 0) ≡ badVolumeSum s
+  unfolding badVolumeSum
   sum-test r m full h e f = rw (← f, ← e, ← h)
 
-  pub name-bad : (n full : ℕ) → n ≡ nameLength s 16 → full ≡ fullSize s → full ≤ 16 + n → name25 s ≡ true
-  unfolding name25 nameEnds
+  pub name-bad : (n full : ℕ) → n ≡ nameLength s 16 → full ≡ fullSize s → full ≤ 16 + n → badVolumeName s ≡ true
+  unfolding badVolumeName nameEnds
   name-bad n full e f h = rw (← e, ← f, le-ltb (16 + n) full h)
 
-  pub name-fine : (n full : ℕ) → n ≡ nameLength s 16 → full ≡ fullSize s → 16 + n < full → name25 s ≡ false
-  unfolding name25 nameEnds
+  pub name-fine : (n full : ℕ) → n ≡ nameLength s 16 → full ≡ fullSize s → 16 + n < full → badVolumeName s ≡ false
+  unfolding badVolumeName nameEnds
   name-fine n full e f h = rw (← e, ← f, lt-ltb (16 + n) full h)
 
-  pub whole-of : (full : ℕ) → full ≡ fullSize s → full < 4294967296 → size23 s ≡ false → Whole s full × (32 ≤ full)
-  unfolding size23
+  pub whole-of : (full : ℕ) → full ≡ fullSize s → full < 4294967296 → badFullSize s ≡ false → Whole s full × (32 ≤ full)
+  unfolding badFullSize
   whole-of full e l h =
       let rest = or-no-r (ltb (fullSize s) 32) (ltb (length s) (fullSize s) || not (eqb (fullSize s % 16) 0)) h in
       let a : 32 ≤ fullSize s = ltb-false (fullSize s) 32 (or-no-l (ltb (fullSize s) 32) (ltb (length s) (fullSize s) || not (eqb (fullSize s % 16) 0)) h) in
@@ -220,31 +251,31 @@ not-not true = refl
 not-not false = refl
 
 module _ (s : List ℕ) (p to : ℕ) (e : to ≡ info s p) where
-  pub link-hard-none : kind s p ≡ 0 → isReached s to ≡ false → true ≡ badLink s p
+  pub link-hard-none : fileType s p ≡ 0 → isReached s to ≡ false → true ≡ badLink s p
   unfolding badLink
-  link-hard-none k r = let r₂ = rw e at r in rw (r₂, eq-eqb (kind s p) 0 k)
+  link-hard-none k r = let r₂ = rw e at r in rw (r₂, eq-eqb (fileType s p) 0 k)
 
-  pub link-hard : kind s p ≡ 0 → isReached s to ≡ true → eqb (kind s to) 0 ≡ badLink s p
+  pub link-hard : fileType s p ≡ 0 → isReached s to ≡ true → eqb (fileType s to) 0 ≡ badLink s p
   unfolding badLink
   link-hard k r =
       let r₂ = rw e at r in
-      rw (e, r₂, eq-eqb (kind s p) 0 k, ne-eqb (kind s p) 1 (omega arith)) (not-not (eqb (kind s (info s p)) 0))
+      rw (e, r₂, eq-eqb (fileType s p) 0 k, ne-eqb (fileType s p) 1 (omega arith)) (not-not (eqb (fileType s (info s p)) 0))
 
-  pub link-other : (kind s p ≡ 0 → ⊥) → (kind s p ≡ 1 → ⊥) → false ≡ badLink s p
+  pub link-other : (fileType s p ≡ 0 → ⊥) → (fileType s p ≡ 1 → ⊥) → false ≡ badLink s p
   unfolding badLink
-  link-other k l = rw (ne-eqb (kind s p) 0 k, ne-eqb (kind s p) 1 l)
+  link-other k l = rw (ne-eqb (fileType s p) 0 k, ne-eqb (fileType s p) 1 l)
 
-  pub link-named : (kind s p ≡ 0 → ⊥) → isDots s p ≡ false → false ≡ badLink s p
+  pub link-named : (fileType s p ≡ 0 → ⊥) → isDots s p ≡ false → false ≡ badLink s p
   unfolding badLink
-  link-named k d = rw (ne-eqb (kind s p) 0 k, d) (named (eqb (kind s p) 1))
+  link-named k d = rw (ne-eqb (fileType s p) 0 k, d) (named (eqb (fileType s p) 1))
     where
       named : (b : Bool) → false ≡ ((b && false) && not (isReached s (info s p)))
       named true = refl
       named false = refl
 
-  pub link-dots : kind s p ≡ 1 → isDots s p ≡ true → not (isReached s to) ≡ badLink s p
+  pub link-dots : fileType s p ≡ 1 → isDots s p ≡ true → not (isReached s to) ≡ badLink s p
   unfolding badLink
-  link-dots k d = rw (e, d, ne-eqb (kind s p) 0 (omega arith), eq-eqb (kind s p) 1 k)
+  link-dots k d = rw (e, d, ne-eqb (fileType s p) 0 (omega arith), eq-eqb (fileType s p) 1 k)
 
 -- what a test of an offset says of the offset that it is
 pub leads-test : (m want : ℕ) {r t : Bool} {n : ℕ} → r ≡ leads n want → n ≡ m → r ≡ t → leads m want ≡ t
@@ -256,53 +287,14 @@ not-zero n h = rw (ne-eqb n 0 h)
 pub zero : (n : ℕ) → n ≡ 0 → not (eqb n 0) ≡ false
 zero n h = rw (eq-eqb n 0 h)
 
--- ---- the second walk
-module _ (s : List ℕ) (full : ℕ) (w : Walked s full) (bound left p : ℕ) (l : left ≤ 7) (r : Reached s p bound (8 - left)) where
-  pub here-room : p + 32 ≤ full
-  here-room = reach-room s full w p (record { bound = bound; depth = 8 - left; reached = r })
-
-  here-sound : Sound s p bound (8 - left)
-  here-sound = sound s (w .volume) (w .walked) r
-
-  pub here-in : p < bound
-  here-in = reached-in s (w .volume) (w .walked) r .1
-
-  pub here-next : (q : ℕ) → q ≡ next s p → (q ≡ 0 → ⊥) → (p < q) × (q < bound)
-  here-next q e z = sound-next s bound (8 - left) p q here-sound e z
-
-  pub link-broken : badLink s p ≡ true → refused 29 p ≡ visitEntry s (linkFault s) left bound p
-  unfolding linkFault
-  link-broken b = sym (entry-refused s (linkFault s) bound p left (8 - left) 29 p (omega arith) (rw b))
-
-  link-fine : badLink s p ≡ false → linkFault s bound (8 - left) p ≡ accepted
-  unfolding linkFault
-  link-fine b = rw b
-
-  pub link-leaf : badLink s p ≡ false → hasList s p ≡ false → accepted ≡ visitEntry s (linkFault s) left bound p
-  link-leaf b t = sym (entry-leaf s (linkFault s) bound p left (8 - left) (omega arith) (link-fine b) t)
-
-  module _ (f o : ℕ) (k : Lies s bound p (below.List f o)) where
-    pub left-some : 1 ≤ left
-    left-some = omega (arith, depth-to s p bound (8 - left) here-sound (k .0))
-
-    pub list-reached : Reached s f o (8 - (left - 1))
-    list-reached = reached-below s bound left p l left-some r f o (k .0) (k .1) (k .2)
-
-    pub link-list : badLink s p ≡ false → visitList s (visitEntry s (linkFault s) (left - 1) o) (o - f) f ≡ visitEntry s (linkFault s) left bound p
-    link-list b = rw (k .1, k .2) (sym (entry-list s (linkFault s) bound p left (8 - left) (omega arith) (omega (arith, left-some)) (link-fine b) (k .0)))
-
-pub lies-of : (s : List ℕ) (bound p : ℕ) {a b : Below} → a ≡ b → Lies s bound p a → Lies s bound p b
-lies-of s bound p e h = rw e at h
-
 -- the root's list
 pub root-reached : (s : List ℕ) (first full : ℕ) → first ≡ firstRoot s → full ≡ fullSize s → (first ≡ full → ⊥) → Reached s first full 1
 root-reached s first full e f z = rw (e, f) (root (λ y. z (e ∙ y ∙ sym f)))
 
 -- ---- the check
 -- a refusal goes on
-pub refused-on : (x : Fault) (a b : Verdict) → toldFault x ≡ a → toldFault x ≡ andThen a b
-refused-on (fault.Volume n) a b e = rw (← e)
-refused-on (fault.Header n p) a b e = rw (← e)
+pub broken-on : (n p : ℕ) (a b : Verdict) → broken n p ≡ a → broken n p ≡ andThen a b
+broken-on n p a b e = rw (← e)
 
 pub accepted-on : (a b v : Verdict) → accepted ≡ a → v ≡ b → v ≡ andThen a b
 accepted-on a b v e f = rw (← e) f

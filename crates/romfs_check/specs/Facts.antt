@@ -6,15 +6,11 @@ use mathlib.Core.List.{List}
 use native.Mathlib.Omega.{arith}
 use lib.ListN.{length}
 use Rattle.romfs_spec.specs.Layout.{fullSize, next}
-use Rattle.romfs_spec.specs.Reached.{IsReached, Sound}
+use Rattle.romfs_proofs.specs.Tested.{IsReached, Sound}
 use Rattle.romfs_proofs.specs.Facts.{room, next-from, next-to}
 use Rattle.romfs_proofs.specs.Walked.{Volume, full-from, full-to, reached-room}
 use Rattle.romfs_headers.specs.Known.{Whole}
 use Rattle.romfs_check.specs.Known.{Walked}
-use Rattle.romfs_check.specs.Told.{FaultFits, CheckFits}
-use Rattle.romfs_check.specs.declared.Fault.{Fault}
-use Rattle.romfs_check.specs.declared.CheckAnswer.{CheckAnswer}
-use Rattle.romfs_check.specs.declared.CheckAnswer.the-variants as checks
 
 pub length-of : (s : List ℕ) → Volume s → 32 ≤ length s
 length-of s v = omega (arith, full-from s v, full-to s v)
@@ -34,7 +30,3 @@ pub sound-next : (s : List ℕ) (bound d p q : ℕ) → Sound s p bound d → q 
 sound-next s bound d p q h e z =
     let y : next s p ≢ 0 = λ w. z (e ∙ w) in
     omega (arith, room s p, next-from s p bound d h y, next-to s p bound d h y)
-
--- a fault's case holds what the check's does
-pub fault-fits : (r : CheckAnswer) (f : Fault) → r ≡ checks.Refused f → CheckFits r → FaultFits f
-fault-fits r f e h = rw e at h

@@ -1,25 +1,9 @@
 -- What an answer of the check tells: number and place.
-use Prim.Native.Nat.{_≤_}
-use Rattle.romfs_spec.specs.Rules.{Verdict, accepted, refused}
-use Rattle.romfs_check.specs.declared.Fault.{Fault}
-use Rattle.romfs_check.specs.declared.Fault.the-variants as fault
-use Rattle.romfs_check.specs.declared.CheckAnswer.{CheckAnswer}
-use Rattle.romfs_check.specs.declared.CheckAnswer.the-variants as checks
+use Rattle.romfs_spec.specs.Check.{accepted, broken}
+use Rattle.romfs_spec.specs.Check as rules
+use Rattle.romfs_check.specs.declared.Verdict.{Verdict}
+use Rattle.romfs_check.specs.declared.Verdict.the-variants as verdict
 
--- 21 to 25 are faults of the volume header, at 0; 26 to 29 name a header
-abbrev pub toldFault : Fault → Verdict
-toldFault (fault.Volume n) = refused n 0
-toldFault (fault.Header n p) = refused n p
-
-abbrev pub told : CheckAnswer → Verdict
-told checks.Accepted = accepted
-told (checks.Refused f) = toldFault f
-
--- each case of a fault holds the numbers of its own rules
-abbrev pub FaultFits : Fault → Type 0
-FaultFits (fault.Volume n) = (21 ≤ n) × (n ≤ 25)
-FaultFits (fault.Header n p) = (26 ≤ n) × (n ≤ 29)
-
-abbrev pub CheckFits : CheckAnswer → Type 0
-CheckFits checks.Accepted = Unit {0}
-CheckFits (checks.Refused f) = FaultFits f
+abbrev pub verdictTold : Verdict → rules.Verdict
+verdictTold verdict.Accepted = accepted
+verdictTold (verdict.Broken n p) = broken n p

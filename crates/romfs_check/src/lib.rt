@@ -4,40 +4,29 @@ ghost use mathlib.Core.Bool.{not, _||_};
 ghost use Prim.Native.Nat.{_+_, _-_, _%_, _≤_, _<_, min};
 ghost use lib.Dec.{ltb, eqb};
 ghost use lib.ListN.{length};
-ghost use Rattle.romfs_spec.specs.Rules.{magic22, fault};
-ghost use Rattle.romfs_spec.specs.Check.{volume, visitList, visitEntry, walk, leads, towards, seek, isReached, badLink, links, andThen};
+ghost use Rattle.romfs_spec.specs.Check.{badMagic, volume, visitList, visitEntry, visitAll, walk, leads, towards, seek, isReached, badLink, links, andThen};
 ghost use Rattle.romfs_spec.specs.Check as rules;
-ghost use Rattle.romfs_spec.specs.Reached.{Reached, IsReached};
-ghost use Rattle.romfs_proofs.specs.Links.{linkFault};
+ghost use Rattle.romfs_proofs.specs.Tested.{IsReached};
 ghost use Rattle.romfs_proofs.specs.Walked.{Volume};
 ghost use Rattle.romfs_headers.specs.Known.{Whole};
-ghost use Rattle.romfs_check.specs.Known.{Walked, Lies};
-ghost use Rattle.romfs_check.specs.Told.{told, CheckFits};
+ghost use Rattle.romfs_check.specs.Known.{Walked, Ready, Here, testOf, Meets, Links};
+ghost use Rattle.romfs_check.specs.Told.{verdictTold};
 ghost use Rattle.romfs_check.specs.Marks.{rowOf, markAt, markTo, Marked};
 use romfs_headers::Step;
 
-pub enum Fault {
-    // Number.
-    Volume(u32),
-    // Number, and the header's offset.
-    Header(u32, u32),
-}
-
-pub enum CheckAnswer {
+// The first fault: its number and its place.
+pub enum Verdict {
     Accepted,
-    Refused(Fault),
+    Broken(u32, u32),
 }
 
 // ---- rules 21 to 25
 
 fn bad_magic(image: &[u8]) -> bool
     requires { ⌜ 32 ≤ length (now image) ⌝ }
-    ensures { λ r. ⌜ r ≡ magic22 (now (image .entry)) ⌝ }
+    ensures { λ r. ⌜ r ≡ badMagic (now (image .entry)) ⌝ }
 {
-    if spans::words::be32(image, 0) != 0x2D726F6D {
-        return true;
-    }
-    spans::words::be32(image, 4) != 0x3166732D
+    !romfs_headers::name_is(image, 0, 8, b"-rom1fs-")
 }
 
 fn bad_full(full: usize, len: usize) -> bool
@@ -59,26 +48,26 @@ fn summed(full: usize) -> usize
     if full < 512 { full } else { 512 }
 }
 
-fn check_volume(image: &[u8]) -> CheckAnswer
-    ensures { λ r. ⌜ (told r ≡ volume (now (image .entry))) × CheckFits r ⌝ }
+fn check_volume(image: &[u8]) -> Verdict
+    ensures { λ r. ⌜ verdictTold r ≡ volume (now (image .entry)) ⌝ }
 {
     if image.len() < 32 {
-        return CheckAnswer::Refused(Fault::Volume(21));
+        return Verdict::Broken(21, 0);
     }
     if bad_magic(image) {
-        return CheckAnswer::Refused(Fault::Volume(22));
+        return Verdict::Broken(22, 0);
     }
     let full = romfs_headers::full_size(image);
     if bad_full(full, image.len()) {
-        return CheckAnswer::Refused(Fault::Volume(23));
+        return Verdict::Broken(23, 0);
     }
     if romfs_headers::sum_words(image, 0, summed(full) / 4) != 0 {
-        return CheckAnswer::Refused(Fault::Volume(24));
+        return Verdict::Broken(24, 0);
     }
     if full <= 16 + romfs_headers::name_length(image, 16, full) {
-        return CheckAnswer::Refused(Fault::Volume(25));
+        return Verdict::Broken(25, 0);
     }
-    CheckAnswer::Accepted
+    Verdict::Accepted
 }
 
 // ---- marks: the image is taken in 256 parts, and a part has eight marks, the first header of each depth in it, or 0
@@ -117,68 +106,6 @@ fn mark_to(row: usize, want: usize, marks: &[u32; 2048]) -> usize
         i = i + 1;
     }
     0
-}
-
-// ---- the walk: rules 26 to 28
-
-// A list visits its entries, from its first header on.
-fn walk_list(
-    image: &[u8],
-    full: usize,
-    at: usize,
-    bound: usize,
-    left: usize,
-    marks: &mut [u32; 2048],
-) -> CheckAnswer
-    requires { ⌜ Whole (now image) full × (at < bound) × (bound ≤ full) × (left ≤ 7) × Reached (now image) at bound (8 - left) × Marked (now image) (now marks) ⌝ }
-    ensures { λ r. ⌜ (told r ≡ visitList (now (image .entry)) (visitEntry (now (image .entry)) (fault (now (image .entry))) left bound) (bound - at) at) × CheckFits r × Marked (now (image .entry)) (now (marks .exit)) ⌝ }
-{
-    let mut p = at;
-    loop {
-        match walk_entry(image, full, p, bound, left, marks) {
-            CheckAnswer::Refused(f) => {
-                return CheckAnswer::Refused(f);
-            }
-            CheckAnswer::Accepted => {
-                let next = romfs_headers::next_of(image, p);
-                if next == 0 {
-                    return CheckAnswer::Accepted;
-                }
-                p = next;
-            }
-        }
-    }
-}
-
-// An entry, then its list.
-fn walk_entry(
-    image: &[u8],
-    full: usize,
-    p: usize,
-    bound: usize,
-    left: usize,
-    marks: &mut [u32; 2048],
-) -> CheckAnswer
-    requires { ⌜ Whole (now image) full × (p < bound) × (bound ≤ full) × (left ≤ 7) × Reached (now image) p bound (8 - left) × Marked (now image) (now marks) ⌝ }
-    ensures { λ r. ⌜ (told r ≡ visitEntry (now (image .entry)) (fault (now (image .entry))) left bound p) × CheckFits r × Marked (now (image .entry)) (now (marks .exit)) ⌝ }
-{
-    mark(full, p, left, marks);
-    match romfs_headers::read_entry(image, full, bound, left, p) {
-        Step::Broken(n) => CheckAnswer::Refused(Fault::Header(n, p as u32)),
-        Step::Leaf => CheckAnswer::Accepted,
-        Step::List(first, own) => walk_list(image, full, first, own, left - 1, marks),
-    }
-}
-
-fn check_walk(image: &[u8], full: usize, marks: &mut [u32; 2048]) -> CheckAnswer
-    requires { ⌜ Whole (now image) full × Volume (now image) × Marked (now image) (now marks) ⌝ }
-    ensures { λ r. ⌜ (told r ≡ walk (now (image .entry))) × CheckFits r × Marked (now (image .entry)) (now (marks .exit)) ⌝ }
-{
-    let first = romfs_headers::first_root(image, full);
-    if first == full {
-        return CheckAnswer::Accepted;
-    }
-    walk_list(image, full, first, full, 7, marks)
 }
 
 // ---- reached headers
@@ -265,13 +192,13 @@ fn bad_link(image: &[u8], full: usize, p: usize, marks: &[u32; 2048]) -> bool
     requires { ⌜ Walked (now image) full × (p + 32 ≤ full) × Marked (now image) (now marks) ⌝ }
     ensures { λ r. ⌜ r ≡ badLink (now (image .entry)) p ⌝ }
 {
-    let k = romfs_headers::kind_of(image, p);
+    let k = romfs_headers::file_type_of(image, p);
     let to = romfs_headers::info_of(image, p);
     if k == 0 {
         if !is_reached_by(image, full, to, marks) {
             return true;
         }
-        return romfs_headers::kind_of(image, to) == 0;
+        return romfs_headers::file_type_of(image, to) == 0;
     }
     if k != 1 {
         return false;
@@ -283,52 +210,71 @@ fn bad_link(image: &[u8], full: usize, p: usize, marks: &[u32; 2048]) -> bool
     !is_reached_by(image, full, to, marks)
 }
 
-// The list of an entry: its first header and its bound.
-enum Below {
-    Nothing,
-    List(usize, usize),
-}
+// ---- the walk: once for rules 26 to 28, and once more for the links
 
-fn below_entry(image: &[u8], full: usize, bound: usize, p: usize) -> Below
-    requires { ⌜ Whole (now image) full × (p + 32 ≤ full) ⌝ }
-    ensures { λ r. ⌜ Lies (now (image .entry)) bound p r ⌝ }
+// Rule 29 at a header: its fault, or its list, or nothing to descend to.
+fn link_step(image: &[u8], full: usize, p: usize, bound: usize, marks: &[u32; 2048]) -> Step
+    requires { ⌜ Walked (now image) full × (p + 32 ≤ full) × Marked (now image) (now marks) ⌝ }
+    ensures { λ r. ⌜ Links (now (image .entry)) bound p r ⌝ }
 {
+    if bad_link(image, full, p, marks) {
+        return Step::Broken(29);
+    }
     let n = romfs_headers::name_length(image, p + 16, full);
     if !romfs_headers::goes_down(image, full, n, p) {
-        return Below::Nothing;
+        return Step::Leaf;
     }
     let first = romfs_headers::info_of(image, p);
     if first == 0 {
-        return Below::Nothing;
+        return Step::Leaf;
     }
-    Below::List(
-        first,
-        romfs_headers::own_bound(romfs_headers::next_of(image, p), bound),
-    )
+    let next = romfs_headers::next_of(image, p);
+    Step::List(first, romfs_headers::own_bound(next, bound))
 }
 
-// The walk once more, for the links.
-fn links_list(
+// What the walk meets at a header. The first walk marks it and tests rules 26 to 28, the second tests rule 29.
+fn step_at(
+    image: &[u8],
+    full: usize,
+    p: usize,
+    bound: usize,
+    left: usize,
+    links: bool,
+    marks: &mut [u32; 2048],
+) -> Step
+    requires { ⌜ Here (now image) full p bound left links × Marked (now image) (now marks) ⌝ }
+    ensures { λ r. ⌜ Meets (testOf (now (image .entry)) links) (now (image .entry)) bound left p r × Marked (now (image .entry)) (now (marks .exit)) ⌝ }
+{
+    if links {
+        return link_step(image, full, p, bound, marks);
+    }
+    mark(full, p, left, marks);
+    romfs_headers::read_entry(image, full, bound, left, p)
+}
+
+// A list visits its entries, from its first header on.
+fn walk_list(
     image: &[u8],
     full: usize,
     at: usize,
     bound: usize,
     left: usize,
-    marks: &[u32; 2048],
-) -> CheckAnswer
-    requires { ⌜ Walked (now image) full × (left ≤ 7) × Reached (now image) at bound (8 - left) × Marked (now image) (now marks) ⌝ }
-    ensures { λ r. ⌜ (told r ≡ visitList (now (image .entry)) (visitEntry (now (image .entry)) (linkFault (now (image .entry))) left bound) (bound - at) at) × CheckFits r ⌝ }
+    links: bool,
+    marks: &mut [u32; 2048],
+) -> Verdict
+    requires { ⌜ Here (now image) full at bound left links × Marked (now image) (now marks) ⌝ }
+    ensures { λ r. ⌜ (verdictTold r ≡ visitList (now (image .entry)) (visitEntry (now (image .entry)) (testOf (now (image .entry)) links) left bound) (bound - at) at) × Marked (now (image .entry)) (now (marks .exit)) ⌝ }
 {
     let mut p = at;
     loop {
-        match links_entry(image, full, p, bound, left, marks) {
-            CheckAnswer::Refused(f) => {
-                return CheckAnswer::Refused(f);
+        match walk_entry(image, full, p, bound, left, links, marks) {
+            Verdict::Broken(n, q) => {
+                return Verdict::Broken(n, q);
             }
-            CheckAnswer::Accepted => {
+            Verdict::Accepted => {
                 let next = romfs_headers::next_of(image, p);
                 if next == 0 {
-                    return CheckAnswer::Accepted;
+                    return Verdict::Accepted;
                 }
                 p = next;
             }
@@ -336,57 +282,58 @@ fn links_list(
     }
 }
 
-fn links_entry(
+// An entry, then its list.
+fn walk_entry(
     image: &[u8],
     full: usize,
     p: usize,
     bound: usize,
     left: usize,
-    marks: &[u32; 2048],
-) -> CheckAnswer
-    requires { ⌜ Walked (now image) full × (left ≤ 7) × Reached (now image) p bound (8 - left) × Marked (now image) (now marks) ⌝ }
-    ensures { λ r. ⌜ (told r ≡ visitEntry (now (image .entry)) (linkFault (now (image .entry))) left bound p) × CheckFits r ⌝ }
+    links: bool,
+    marks: &mut [u32; 2048],
+) -> Verdict
+    requires { ⌜ Here (now image) full p bound left links × Marked (now image) (now marks) ⌝ }
+    ensures { λ r. ⌜ (verdictTold r ≡ visitEntry (now (image .entry)) (testOf (now (image .entry)) links) left bound p) × Marked (now (image .entry)) (now (marks .exit)) ⌝ }
 {
-    if bad_link(image, full, p, marks) {
-        return CheckAnswer::Refused(Fault::Header(29, p as u32));
-    }
-    match below_entry(image, full, bound, p) {
-        Below::Nothing => CheckAnswer::Accepted,
-        Below::List(first, own) => links_list(image, full, first, own, left - 1, marks),
+    match step_at(image, full, p, bound, left, links, marks) {
+        Step::Broken(n) => Verdict::Broken(n, p as u32),
+        Step::Leaf => Verdict::Accepted,
+        Step::List(first, own) => walk_list(image, full, first, own, left - 1, links, marks),
     }
 }
 
-fn check_links(image: &[u8], full: usize, marks: &[u32; 2048]) -> CheckAnswer
-    requires { ⌜ Walked (now image) full × Marked (now image) (now marks) ⌝ }
-    ensures { λ r. ⌜ (told r ≡ links (now (image .entry))) × CheckFits r ⌝ }
+// The whole image.
+fn walk_all(image: &[u8], full: usize, links: bool, marks: &mut [u32; 2048]) -> Verdict
+    requires { ⌜ Ready (now image) full links × Marked (now image) (now marks) ⌝ }
+    ensures { λ r. ⌜ (verdictTold r ≡ visitAll (now (image .entry)) (testOf (now (image .entry)) links)) × Marked (now (image .entry)) (now (marks .exit)) ⌝ }
 {
     let first = romfs_headers::first_root(image, full);
     if first == full {
-        return CheckAnswer::Accepted;
+        return Verdict::Accepted;
     }
-    links_list(image, full, first, full, 7, marks)
+    walk_list(image, full, first, full, 7, links, marks)
 }
 
 // ---- requests
 
 // Rules 26 to 29, of an image whose volume header is right.
-fn check_headers(image: &[u8]) -> CheckAnswer
+fn check_headers(image: &[u8]) -> Verdict
     requires { ⌜ Volume (now image) ⌝ }
-    ensures { λ r. ⌜ (told r ≡ andThen (walk (now (image .entry))) (links (now (image .entry)))) × CheckFits r ⌝ }
+    ensures { λ r. ⌜ verdictTold r ≡ andThen (walk (now (image .entry))) (links (now (image .entry))) ⌝ }
 {
     let full = romfs_headers::full_size(image);
     let mut marks = [0u32; 2048];
-    match check_walk(image, full, &mut marks) {
-        CheckAnswer::Refused(f) => CheckAnswer::Refused(f),
-        CheckAnswer::Accepted => check_links(image, full, &marks),
+    match walk_all(image, full, false, &mut marks) {
+        Verdict::Broken(n, q) => Verdict::Broken(n, q),
+        Verdict::Accepted => walk_all(image, full, true, &mut marks),
     }
 }
 
-pub fn check(image: &[u8]) -> CheckAnswer
-    ensures { λ r. ⌜ (told r ≡ rules.check (now (image .entry))) × CheckFits r ⌝ }
+pub fn check(image: &[u8]) -> Verdict
+    ensures { λ r. ⌜ verdictTold r ≡ rules.check (now (image .entry)) ⌝ }
 {
     match check_volume(image) {
-        CheckAnswer::Refused(f) => CheckAnswer::Refused(f),
-        CheckAnswer::Accepted => check_headers(image),
+        Verdict::Broken(n, q) => Verdict::Broken(n, q),
+        Verdict::Accepted => check_headers(image),
     }
 }

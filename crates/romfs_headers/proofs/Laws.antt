@@ -15,7 +15,7 @@ use Rattle.list_laws.specs.Test.{to-true, to-false, same-eq, same-refl}
 use Rattle.list_laws.specs.Part.{getD-part, length-part}
 use Rattle.list_laws.specs.Least.{Below, found, none-found}
 use Rattle.romfs_spec.specs.Layout.{fullSize, nameLength, wordSum, next, info, endOf, own, hasList}
-use Rattle.romfs_spec.specs.Rules.{accepted, refused, overBound, badHeader, badNext, badFirst, badNesting, tooDeep, fault}
+use Rattle.romfs_spec.specs.Check.{accepted, broken, overBound, badHeader, badNext, badFirst, badNesting, tooDeep, fault}
 use Rattle.romfs_proofs.specs.Facts.{room}
 
 -- ---- sums
@@ -72,23 +72,23 @@ module _ (s : List ℕ) (bound p : ℕ) where
   unfolding badFirst
   first-test r n e o h f g k t = rw (t, ← f, ← g, ← k) h
 
-  pub fault-header : (d : ℕ) → badHeader s bound p ≡ true → fault s bound d p ≡ refused 26 p
+  pub fault-header : (d : ℕ) → badHeader s bound p ≡ true → fault s bound d p ≡ broken 26 p
   unfolding fault
   fault-header d h = rw h
 
-  pub fault-short : (d : ℕ) → bound < p + 32 → fault s bound d p ≡ refused 26 p
+  pub fault-short : (d : ℕ) → bound < p + 32 → fault s bound d p ≡ broken 26 p
   unfolding badHeader overBound
   fault-short d h = let e : ltb bound (endOf s p) ≡ true = lt-ltb bound (endOf s p) (omega (arith, room s p)) in fault-header d (rw e)
 
-  pub fault-next : (d : ℕ) → badHeader s bound p ≡ false → badNext s bound p ≡ true → fault s bound d p ≡ refused 27 p
+  pub fault-next : (d : ℕ) → badHeader s bound p ≡ false → badNext s bound p ≡ true → fault s bound d p ≡ broken 27 p
   unfolding fault badNesting
   fault-next d h n = rw (h, n)
 
-  pub fault-first : (d : ℕ) → badHeader s bound p ≡ false → badNext s bound p ≡ false → badFirst s bound p ≡ true → fault s bound d p ≡ refused 27 p
+  pub fault-first : (d : ℕ) → badHeader s bound p ≡ false → badNext s bound p ≡ false → badFirst s bound p ≡ true → fault s bound d p ≡ broken 27 p
   unfolding fault badNesting
   fault-first d h n f = rw (h, n, f)
 
-  pub fault-deep : (d : ℕ) → badHeader s bound p ≡ false → badNext s bound p ≡ false → badFirst s bound p ≡ false → hasList s p ≡ true → 8 ≤ d → fault s bound d p ≡ refused 28 p
+  pub fault-deep : (d : ℕ) → badHeader s bound p ≡ false → badNext s bound p ≡ false → badFirst s bound p ≡ false → hasList s p ≡ true → 8 ≤ d → fault s bound d p ≡ broken 28 p
   unfolding fault badNesting tooDeep
   fault-deep d h n f t l = rw (h, n, f, t, le-leb 8 d l)
 

@@ -5,7 +5,7 @@ use mathlib.Core.Bool.{Bool, true, false}
 use mathlib.Core.List.{List}
 use lib.ListN.{length}
 use Rattle.romfs_spec.specs.Layout.{fullSize, nameLength, info, own, hasList}
-use Rattle.romfs_spec.specs.Rules.{Verdict, accepted, refused, fault}
+use Rattle.romfs_spec.specs.Check.{Verdict, accepted, broken, fault}
 use Rattle.romfs_proofs.specs.Facts.{fault-place}
 use Rattle.romfs_headers.specs.declared.Step.{Step}
 use Rattle.romfs_headers.specs.declared.Step.the-variants as step
@@ -26,7 +26,7 @@ pub record Head (s : List ℕ) (full n p : ℕ) : Type 0 where
 abbrev pub stepBy : Verdict → Bool → ℕ → ℕ → Step
 stepBy accepted true f o = step.List f o
 stepBy accepted false f o = step.Leaf
-stepBy (refused n q) t f o = step.Broken n
+stepBy (broken n q) t f o = step.Broken n
 
 -- the step at a header at p, in a list with left lists below it: the number of its fault, or its list, or nothing
 unfoldable pub stepOf : List ℕ → ℕ → ℕ → ℕ → Step
@@ -34,7 +34,7 @@ stepOf s bound left p = stepBy (fault s bound (8 - left) p) (hasList s p) (info 
 
 -- what a step says
 abbrev pub Reads : List ℕ → ℕ → ℕ → ℕ → Step → Type 0
-Reads s bound left p (step.Broken n) = fault s bound (8 - left) p ≡ refused n p
+Reads s bound left p (step.Broken n) = fault s bound (8 - left) p ≡ broken n p
 Reads s bound left p step.Leaf = (fault s bound (8 - left) p ≡ accepted) × (hasList s p ≡ false)
 Reads s bound left p (step.List f o) = (fault s bound (8 - left) p ≡ accepted) × (hasList s p ≡ true) × (f ≡ info s p) × (o ≡ own s bound p)
 
@@ -48,7 +48,7 @@ module _ (s : List ℕ) (bound left p : ℕ) where
   reads-by : (v : Verdict) (t : Bool) → fault s bound (8 - left) p ≡ v → hasList s p ≡ t → Reads s bound left p (stepBy v t (info s p) (own s bound p))
   reads-by accepted true e h = (e, h, refl, refl)
   reads-by accepted false e h = (e, h)
-  reads-by (refused n q) t e h = e ∙ ap (refused n) (fault-place s p bound (8 - left) n q e)
+  reads-by (broken n q) t e h = e ∙ ap (broken n) (fault-place s p bound (8 - left) n q e)
 
   pub step-reads : (x : Step) → x ≡ stepOf s bound left p → Reads s bound left p x
   unfolding stepOf

@@ -5,8 +5,8 @@ ghost use lib.Dec.{leb, ltb, eqb};
 ghost use Prim.Native.Nat.{_+_, _*_, _/_, _%_, _≤_, _<_};
 ghost use lib.ListN.{length};
 ghost use Rattle.lists.specs.Lists.{sameList, word, part};
-ghost use Rattle.romfs_spec.specs.Layout.{pad16, nameLength, fullSize, firstRoot, kind, executable, next, info, size, endOf, isDots, descends, hasData, wordSum};
-ghost use Rattle.romfs_spec.specs.Rules.{overBound, badName, badSum, badInfo, badSize, badHeader};
+ghost use Rattle.romfs_spec.specs.Layout.{pad16, nameLength, fullSize, firstRoot, fileType, executable, next, info, size, endOf, isDots, descends, hasData, wordSum};
+ghost use Rattle.romfs_spec.specs.Check.{overBound, badName, badSum, badInfo, badSize, badHeader};
 ghost use Rattle.romfs_headers.specs.Known.{Whole, Head, stepOf};
 use spans::words::be32;
 
@@ -86,9 +86,9 @@ pub fn full_size(image: &[u8]) -> usize
 
 // ---- a header
 
-pub fn kind_of(image: &[u8], p: usize) -> usize
+pub fn file_type_of(image: &[u8], p: usize) -> usize
     requires { ⌜ p + 16 ≤ length (now image) ⌝ }
-    ensures { λ r. ⌜ (r ≡ kind (now (image .entry)) p) × (r < 8) ⌝ }
+    ensures { λ r. ⌜ (r ≡ fileType (now (image .entry)) p) × (r < 8) ⌝ }
 {
     word_at(image, p) % 8
 }
@@ -158,7 +158,7 @@ pub fn goes_down(image: &[u8], full: usize, n: usize, p: usize) -> bool
     requires { ⌜ Head (now image) full n p ⌝ }
     ensures { λ r. ⌜ r ≡ descends (now (image .entry)) p ⌝ }
 {
-    if kind_of(image, p) != 1 {
+    if file_type_of(image, p) != 1 {
         return false;
     }
     !is_dots(image, full, n, p)
@@ -221,7 +221,7 @@ fn bad_info(image: &[u8], p: usize) -> bool
     requires { ⌜ p + 16 ≤ length (now image) ⌝ }
     ensures { λ r. ⌜ r ≡ badInfo (now (image .entry)) p ⌝ }
 {
-    if no_info(kind_of(image, p)) {
+    if no_info(file_type_of(image, p)) {
         return info_of(image, p) != 0;
     }
     false
@@ -231,7 +231,7 @@ fn bad_size(image: &[u8], p: usize) -> bool
     requires { ⌜ p + 16 ≤ length (now image) ⌝ }
     ensures { λ r. ⌜ r ≡ badSize (now (image .entry)) p ⌝ }
 {
-    if has_data(kind_of(image, p)) {
+    if has_data(file_type_of(image, p)) {
         return false;
     }
     size_of(image, p) != 0

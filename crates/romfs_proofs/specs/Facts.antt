@@ -10,8 +10,8 @@ use borrow.Author.Tests.{ltb-false, leb-false, eq-eqb, ne-eqb, eqb-true, not-fal
 use lib.Dec.{leb, ltb, eqb}
 use Rattle.list_laws.specs.Test.{or-no-l, or-no-r}
 use Rattle.romfs_spec.specs.Layout.{afterName, next, info, contentAt, endOf, own, descends, hasList}
-use Rattle.romfs_spec.specs.Rules.{accepted, refused, overBound, badHeader, badNext, badFirst, badNesting, tooDeep, fault, badName, badSum, badInfo, badSize}
-use Rattle.romfs_spec.specs.Reached.{Sound}
+use Rattle.romfs_spec.specs.Check.{accepted, broken, overBound, badHeader, badNext, badFirst, badNesting, tooDeep, fault, badName, badSum, badInfo, badSize}
+use Rattle.romfs_proofs.specs.Tested.{Sound}
 
 -- ---- Booleans
 pub or-yes : (a b : Bool) → (a || b) ≡ true → (a ≡ true) ⊎ (b ≡ true)
@@ -136,7 +136,7 @@ module _ (s : List ℕ) (p bound depth : ℕ) (h : Sound s p bound depth) where
   depth-to t = leb-false 8 depth (and-no (hasList s p) (leb 8 depth) (h .shallow) t)
 
 -- ---- the fault of a header
-fault-by : (p : ℕ) (a b c : Bool) → cond a (refused 26 p) (cond b (refused 27 p) (cond c (refused 28 p) accepted)) ≡ accepted → (a ≡ false) × (b ≡ false) × (c ≡ false)
+fault-by : (p : ℕ) (a b c : Bool) → cond a (broken 26 p) (cond b (broken 27 p) (cond c (broken 28 p) accepted)) ≡ accepted → (a ≡ false) × (b ≡ false) × (c ≡ false)
 fault-by p true b c e = absurd (let z : _≡_ {A = ℕ} 0 1 = cc in omega arith)
 fault-by p false true c e = absurd (let z : _≡_ {A = ℕ} 0 1 = cc in omega arith)
 fault-by p false false true e = absurd (let z : _≡_ {A = ℕ} 0 1 = cc in omega arith)
@@ -152,22 +152,22 @@ pub sound-fault : (s : List ℕ) (p bound depth : ℕ) → Sound s p bound depth
 unfolding fault
 sound-fault s p bound depth h = rw (h .head, h .nested, h .shallow)
 
-place-by : (p n q : ℕ) (a b c : Bool) → cond a (refused 26 p) (cond b (refused 27 p) (cond c (refused 28 p) accepted)) ≡ refused n q → q ≡ p
+place-by : (p n q : ℕ) (a b c : Bool) → cond a (broken 26 p) (cond b (broken 27 p) (cond c (broken 28 p) accepted)) ≡ broken n q → q ≡ p
 place-by p n q true b c e = cc
 place-by p n q false true c e = cc
 place-by p n q false false true e = cc
 place-by p n q false false false e = absurd (let z : _≡_ {A = ℕ} 0 1 = cc in omega arith)
 
-pub fault-place : (s : List ℕ) (p bound depth n q : ℕ) → fault s bound depth p ≡ refused n q → q ≡ p
+pub fault-place : (s : List ℕ) (p bound depth n q : ℕ) → fault s bound depth p ≡ broken n q → q ≡ p
 unfolding fault
 fault-place s p bound depth n q e = place-by p n q (badHeader s bound p) (badNesting s bound p) (tooDeep s depth p) e
 
-number-by : (p n q : ℕ) (a b c : Bool) → cond a (refused 26 p) (cond b (refused 27 p) (cond c (refused 28 p) accepted)) ≡ refused n q → (26 ≤ n) × (n ≤ 28)
+number-by : (p n q : ℕ) (a b c : Bool) → cond a (broken 26 p) (cond b (broken 27 p) (cond c (broken 28 p) accepted)) ≡ broken n q → (26 ≤ n) × (n ≤ 28)
 number-by p n q true b c e = let f : n ≡ 26 = cc in omega arith
 number-by p n q false true c e = let f : n ≡ 27 = cc in omega arith
 number-by p n q false false true e = let f : n ≡ 28 = cc in omega arith
 number-by p n q false false false e = absurd (let z : _≡_ {A = ℕ} 0 1 = cc in omega arith)
 
-pub fault-number : (s : List ℕ) (p bound depth n q : ℕ) → fault s bound depth p ≡ refused n q → (26 ≤ n) × (n ≤ 28)
+pub fault-number : (s : List ℕ) (p bound depth n q : ℕ) → fault s bound depth p ≡ broken n q → (26 ≤ n) × (n ≤ 28)
 unfolding fault
 fault-number s p bound depth n q e = number-by p n q (badHeader s bound p) (badNesting s bound p) (tooDeep s depth p) e

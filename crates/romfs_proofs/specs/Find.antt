@@ -12,10 +12,9 @@ use lib.Dec.{T, eqb}
 use Rattle.lists.specs.Lists.{sameList}
 use Rattle.list_laws.specs.Test.{same-eq, same-refl, of-true, to-true}
 use Rattle.romfs_spec.specs.Layout.{fullSize, next, name}
-use Rattle.romfs_spec.specs.Rules.{accepted}
-use Rattle.romfs_spec.specs.Reached.{along, IsReached}
-use Rattle.romfs_spec.specs.Check.{walk, check}
-use Rattle.romfs_spec.specs.Answers.{Answer, granted, denied, firstOf, matchFrom, matchIn, isDirectory, found, find}
+use Rattle.romfs_spec.specs.Check.{accepted, walk, check}
+use Rattle.romfs_proofs.specs.Tested.{along, IsReached}
+use Rattle.romfs_spec.specs.Requests.{Answer, granted, refused, firstOf, matchFrom, matchIn, isDirectory, findStep, find}
 use Rattle.romfs_proofs.specs.Facts.{true-false, room, next-from}
 use Rattle.romfs_proofs.specs.Lowest.{yes-no}
 use Rattle.romfs_proofs.specs.Walked.{Volume, volume-of, sound, reached-room}
@@ -36,7 +35,7 @@ pub record FirstMatch (s want : List ℕ) (first p : ℕ) : Type 0 where
 -- what an answer of find says of the list from first on, where first 0 is the empty list
 abbrev pub Finds : List ℕ → List ℕ → ℕ → Answer ℕ → Type 0
 Finds s want first (granted p) = (first ≢ 0) × FirstMatch s want first p
-Finds s want first (denied n q) = (n ≡ 30) × (q ≡ 0) × ((p : ℕ) → first ≢ 0 → InList s first p → name s p ≢ want)
+Finds s want first (refused n q) = (n ≡ 30) × (q ≡ 0) × ((p : ℕ) → first ≢ 0 → InList s first p → name s p ≢ want)
 
 -- ---- the same by the first step
 data Way (s : List ℕ) (p q : ℕ) : Type 0 where
@@ -117,12 +116,12 @@ module _ (s : List ℕ) (v : Volume s) (w : walk s ≡ accepted) where
       (yes-no (sameList (name s p) want))
 
 -- ---- find
-found-by : (s want : List ℕ) (first at : ℕ) → first ≢ 0 → ((q : ℕ) → InList s first q → q ≢ 0) → Result s want first at → Finds s want first (cond (eqb at 0) (denied 30 0) (granted at))
+found-by : (s want : List ℕ) (first at : ℕ) → first ≢ 0 → ((q : ℕ) → InList s first q → q ≢ 0) → Result s want first at → Finds s want first (cond (eqb at 0) (refused 30 0) (granted at))
 found-by s want first at z some-header (none e h) = rw (eq-eqb at 0 e) (refl, refl, λ p y l. h p l)
 found-by s want first at z some-header (some m) = rw (ne-eqb at 0 (some-header at (m .entry))) (z, m)
 
 pub find-first : (s : List ℕ) (dir : ℕ) (want : List ℕ) → check s ≡ accepted → isDirectory s dir ≡ true → Finds s want (firstOf s dir) (find s dir want)
-unfolding find found matchIn
+unfolding find findStep matchIn
 find-first s dir want a d =
     let parts = check-parts s a in
     let v = volume-of s (parts .0) in

@@ -9,11 +9,10 @@ use native.Mathlib.Decide.{ℕ-discrete}
 use borrow.Author.Tests.{eq-eqb, ne-eqb, eqb-true}
 use lib.ListN.{length}
 use lib.Dec.{eqb}
-use Rattle.romfs_spec.specs.Layout.{fullSize, firstRoot, kind, info, size, own, contentAt, endOf, isDots, descends, hasData}
-use Rattle.romfs_spec.specs.Rules.{Verdict, accepted, refused}
-use Rattle.romfs_spec.specs.Reached.{root, inside, IsReached, Sound}
-use Rattle.romfs_spec.specs.Check.{isReached, check}
-use Rattle.romfs_spec.specs.Answers.{granted, denied, checked, firstOf, isDirectory, measured, contentLength}
+use Rattle.romfs_spec.specs.Layout.{fullSize, firstRoot, fileType, info, size, own, contentAt, endOf, isDots, descends, hasData}
+use Rattle.romfs_spec.specs.Check.{Verdict, accepted, broken, isReached, check}
+use Rattle.romfs_proofs.specs.Tested.{root, inside, IsReached, Sound}
+use Rattle.romfs_spec.specs.Requests.{granted, refused, checked, firstOf, isDirectory, contentStep, contentLength}
 use Rattle.romfs_proofs.specs.Facts.{or-yes, and-yes-l, and-yes-r, ends}
 use Rattle.romfs_proofs.specs.Lowest.{yes-no}
 use Rattle.romfs_proofs.specs.Walked.{volume-of, full-to, reached-in}
@@ -33,17 +32,17 @@ pub first-info : (s : List ℕ) (dir : ℕ) → dir ≢ 0 → firstOf s dir ≡ 
 unfolding firstOf
 first-info s dir z = rw (ne-eqb dir 0 z)
 
-dir-reached : (s : List ℕ) (dir : ℕ) → isDirectory s dir ≡ true → dir ≢ 0 → (isReached s dir && eqb (kind s dir) 1) ≡ true
+dir-reached : (s : List ℕ) (dir : ℕ) → isDirectory s dir ≡ true → dir ≢ 0 → (isReached s dir && eqb (fileType s dir) 1) ≡ true
 unfolding isDirectory
 dir-reached s dir h z = rw (ne-eqb dir 0 z) at h
 
 -- a directory that is not 0 is a reached header
 pub dir-is : (s : List ℕ) (dir : ℕ) → isDirectory s dir ≡ true → dir ≢ 0 → IsReached s dir
-dir-is s dir h z = is-reached s dir (and-yes-l (isReached s dir) (eqb (kind s dir) 1) (dir-reached s dir h z))
+dir-is s dir h z = is-reached s dir (and-yes-l (isReached s dir) (eqb (fileType s dir) 1) (dir-reached s dir h z))
 
-descends-of : (s : List ℕ) (p : ℕ) → kind s p ≡ 1 → isDots s p ≡ false → descends s p ≡ true
+descends-of : (s : List ℕ) (p : ℕ) → fileType s p ≡ 1 → isDots s p ≡ false → descends s p ≡ true
 unfolding descends
-descends-of s p k d = rw (eq-eqb (kind s p) 1 k, d)
+descends-of s p k d = rw (eq-eqb (fileType s p) 1 k, d)
 
 -- a directory's first header is reached, also that of "." and ".."
 pub first-reached : (s : List ℕ) (dir : ℕ) → check s ≡ accepted → isDirectory s dir ≡ true → firstOf s dir ≢ 0 → IsReached s (firstOf s dir)
@@ -52,7 +51,7 @@ first-reached s dir a h f =
       | yes z ↦ first-root s dir z f
       | no z ↦
           let r : IsReached s dir = dir-is s dir h z in
-          let k : kind s dir ≡ 1 = eqb-true (kind s dir) 1 (and-yes-r (isReached s dir) (eqb (kind s dir) 1) (dir-reached s dir h z)) in
+          let k : fileType s dir ≡ 1 = eqb-true (fileType s dir) 1 (and-yes-r (isReached s dir) (eqb (fileType s dir) 1) (dir-reached s dir h z)) in
           let e : firstOf s dir ≡ info s dir = first-info s dir z in
           subst (IsReached s) (sym e)
           (⊎-elim (λ d. check-accepted s .0 a .linked (r .reached) .dots k d)
@@ -62,9 +61,9 @@ first-reached s dir a h f =
 
 -- ---- content
 -- types 2 and 3 have content
-pub data-kind : (k : ℕ) → (hasData k ≡ true) ↔ ((k ≡ 2) ⊎ (k ≡ 3))
+pub data-type : (k : ℕ) → (hasData k ≡ true) ↔ ((k ≡ 2) ⊎ (k ≡ 3))
 unfolding hasData
-data-kind k = (
+data-type k = (
   λ h. ⊎-elim (λ e. inl (eqb-true k 2 e)) (λ e. inr (eqb-true k 3 e)) (or-yes (eqb k 2) (eqb k 3) h),
   λ h. ⊎-elim (λ e. rw e) (λ e. rw e) h,
 )
@@ -73,7 +72,6 @@ data-kind k = (
 pub record Content (s : List ℕ) (p n : ℕ) : Type 0 where
   pub sound : check s ≡ accepted
   pub reached : IsReached s p
-  pub typed : (kind s p ≡ 2) ⊎ (kind s p ≡ 3)
   pub is : n ≡ size s p
   pub inside : contentAt s p + n ≤ fullSize s
   pub full : fullSize s ≤ length s
@@ -82,22 +80,21 @@ size-in : (s : List ℕ) (p b d : ℕ) → Sound s p b d → contentAt s p + siz
 unfolding endOf
 size-in s p b d h = omega (arith, ends s p b d h)
 
-granted-by : (s : List ℕ) (p n : ℕ) (v : Verdict) (t : Bool) → checked v (cond t (granted (size s p)) (denied 31 0)) ≡ granted n → (v ≡ accepted) × (t ≡ true) × (n ≡ size s p)
+granted-by : (s : List ℕ) (p n : ℕ) (v : Verdict) (t : Bool) → checked v (cond t (granted (size s p)) (refused 31 0)) ≡ granted n → (v ≡ accepted) × (t ≡ true) × (n ≡ size s p)
 granted-by s p n accepted true e = (refl, refl, (cc))
 granted-by s p n accepted false e = absurd (let z : _≡_ {A = ℕ} 0 1 = cc in omega arith)
-granted-by s p n (refused m q) t e = absurd (let z : _≡_ {A = ℕ} 0 1 = cc in omega arith)
+granted-by s p n (broken m q) t e = absurd (let z : _≡_ {A = ℕ} 0 1 = cc in omega arith)
 
 pub content-in : (s : List ℕ) (p n : ℕ) → contentLength s p ≡ granted n → Content s p n
-unfolding contentLength measured
+unfolding contentLength contentStep
 content-in s p n e =
-    let g = granted-by s p n (check s) (isReached s p && hasData (kind s p)) e in
+    let g = granted-by s p n (check s) (isReached s p && hasData (fileType s p)) e in
     let parts = check-parts s (g .0) in
-    let r : IsReached s p = is-reached s p (and-yes-l (isReached s p) (hasData (kind s p)) (g .1)) in
+    let r : IsReached s p = is-reached s p (and-yes-l (isReached s p) (hasData (fileType s p)) (g .1)) in
     let l = reached-in s (volume-of s (parts .0)) (parts .1) (r .reached) in
     record {
       sound = g .0;
       reached = r;
-      typed = data-kind (kind s p) .0 (and-yes-r (isReached s p) (hasData (kind s p)) (g .1));
       is = g .2;
       inside = omega (arith, g .2, size-in s p (r .bound) (r .depth) (check-accepted s .0 (g .0) .sound (r .reached)));
       full = full-to s (volume-of s (parts .0));

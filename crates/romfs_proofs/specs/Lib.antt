@@ -1,3 +1,4 @@
+pub mod Tested
 pub mod Facts
 pub mod Visit
 pub mod Lowest
@@ -7,6 +8,8 @@ pub mod Links
 pub mod Theorems
 pub mod Given
 pub mod Find
+pub mod Plain
+pub mod Checked
 pub mod Answered
 pub mod Past
-pub mod Means
+pub mod Proved

@@ -11,13 +11,12 @@ use lib.Dec.{T, ltb, eqb}
 use Rattle.list_laws.specs.Test.{of-true, to-true, no-false, or-no-l, or-no-r}
 use Rattle.lists.specs.Lists.{least}
 use Rattle.list_laws.specs.Least.{least-is, least-all, least-hit, least-none, least-below}
-use Rattle.romfs_spec.specs.Layout.{fullSize, firstRoot, kind, info, isDots}
-use Rattle.romfs_spec.specs.Rules.{Verdict, accepted, refused}
-use Rattle.romfs_spec.specs.Reached.{Reached, root, along, inside, IsReached, Linked}
-use Rattle.romfs_spec.specs.Check.{visitAll, walk, isReached, badLink, links}
+use Rattle.romfs_spec.specs.Layout.{fullSize, firstRoot, fileType, info, isDots}
+use Rattle.romfs_spec.specs.Check.{Verdict, accepted, broken, visitAll, walk, isReached, badLink, links}
+use Rattle.romfs_proofs.specs.Tested.{Reached, root, along, inside, IsReached, Linked}
 use Rattle.romfs_proofs.specs.Facts.{and-no, and-yes-l, and-yes-r, both, true-false, list-descends, list-first}
 use Rattle.romfs_proofs.specs.Visit.{not-both}
-use Rattle.romfs_proofs.specs.Lowest.{Lowest, lowest, Out, fine, broken, out, yes-no}
+use Rattle.romfs_proofs.specs.Lowest.{Lowest, lowest, Out, fine, fails, out, yes-no}
 use Rattle.romfs_proofs.specs.Walked.{Volume, root-in, has-root, met, all-met, sound, visit-none, visit-root, reached-in}
 use Rattle.romfs_proofs.specs.Seek.{is-reached, reached-is}
 
@@ -28,55 +27,55 @@ or-false a b e f = rw (e, f)
 pub linked-of : (s : List ℕ) (p : ℕ) → badLink s p ≡ false → Linked s p
 unfolding badLink
 linked-of s p e =
-    let x : Bool = eqb (kind s p) 0 && not (isReached s (info s p) && not (eqb (kind s (info s p)) 0)) in
-    let y : Bool = (eqb (kind s p) 1 && isDots s p) && not (isReached s (info s p)) in
-    let target : kind s p ≡ 0 → (isReached s (info s p) && not (eqb (kind s (info s p)) 0)) ≡ true =
-    λ k. not-false (isReached s (info s p) && not (eqb (kind s (info s p)) 0)) (and-no (eqb (kind s p) 0) (not (isReached s (info s p) && not (eqb (kind s (info s p)) 0))) (or-no-l x y e) (eq-eqb (kind s p) 0 k)) in
+    let x : Bool = eqb (fileType s p) 0 && not (isReached s (info s p) && not (eqb (fileType s (info s p)) 0)) in
+    let y : Bool = (eqb (fileType s p) 1 && isDots s p) && not (isReached s (info s p)) in
+    let target : fileType s p ≡ 0 → (isReached s (info s p) && not (eqb (fileType s (info s p)) 0)) ≡ true =
+    λ k. not-false (isReached s (info s p) && not (eqb (fileType s (info s p)) 0)) (and-no (eqb (fileType s p) 0) (not (isReached s (info s p) && not (eqb (fileType s (info s p)) 0))) (or-no-l x y e) (eq-eqb (fileType s p) 0 k)) in
     record {
       hard = λ k. (
-        is-reached s (info s p) (and-yes-l (isReached s (info s p)) (not (eqb (kind s (info s p)) 0)) (target k)),
-        eqb-false (kind s (info s p)) 0 (not-true (eqb (kind s (info s p)) 0) (and-yes-r (isReached s (info s p)) (not (eqb (kind s (info s p)) 0)) (target k))),
+        is-reached s (info s p) (and-yes-l (isReached s (info s p)) (not (eqb (fileType s (info s p)) 0)) (target k)),
+        eqb-false (fileType s (info s p)) 0 (not-true (eqb (fileType s (info s p)) 0) (and-yes-r (isReached s (info s p)) (not (eqb (fileType s (info s p)) 0)) (target k))),
       );
       dots = λ k t.
           is-reached s (info s p)
           (not-false (isReached s (info s p))
-          (and-no (eqb (kind s p) 1 && isDots s p) (not (isReached s (info s p))) (or-no-r x y e) (both (eqb (kind s p) 1) (isDots s p) (eq-eqb (kind s p) 1 k) t)));
+          (and-no (eqb (fileType s p) 1 && isDots s p) (not (isReached s (info s p))) (or-no-r x y e) (both (eqb (fileType s p) 1) (isDots s p) (eq-eqb (fileType s p) 1 k) t)));
     }
 
 pub of-linked : (s : List ℕ) (p : ℕ) → Volume s → walk s ≡ accepted → Linked s p → badLink s p ≡ false
 unfolding badLink
 of-linked s p v w h =
-    or-false (eqb (kind s p) 0 && not (isReached s (info s p) && not (eqb (kind s (info s p)) 0)))
-    ((eqb (kind s p) 1 && isDots s p) && not (isReached s (info s p)))
+    or-false (eqb (fileType s p) 0 && not (isReached s (info s p) && not (eqb (fileType s (info s p)) 0)))
+    ((eqb (fileType s p) 1 && isDots s p) && not (isReached s (info s p)))
     (⊎-elim
     (λ k.
-    let t = h .hard (eqb-true (kind s p) 0 k) in
-    rw (reached-is s (info s p) v w (t .0), ne-eqb (kind s (info s p)) 0 (t .1), k))
+    let t = h .hard (eqb-true (fileType s p) 0 k) in
+    rw (reached-is s (info s p) v w (t .0), ne-eqb (fileType s (info s p)) 0 (t .1), k))
     (λ k. rw k)
-    (yes-no (eqb (kind s p) 0)))
+    (yes-no (eqb (fileType s p) 0)))
     (⊎-elim
     (λ k.
-    rw (reached-is s (info s p) v w (h .dots (eqb-true (kind s p) 1 (and-yes-l (eqb (kind s p) 1) (isDots s p) k)) (and-yes-r (eqb (kind s p) 1) (isDots s p) k)), k))
+    rw (reached-is s (info s p) v w (h .dots (eqb-true (fileType s p) 1 (and-yes-l (eqb (fileType s p) 1) (isDots s p) k)) (and-yes-r (eqb (fileType s p) 1) (isDots s p) k)), k))
     (λ k. rw k)
-    (yes-no (eqb (kind s p) 1 && isDots s p)))
+    (yes-no (eqb (fileType s p) 1 && isDots s p)))
 
 -- ---- the second walk
 unfoldable pub linkFault : List ℕ → ℕ → ℕ → ℕ → Verdict
-linkFault s bound depth p = cond (badLink s p) (refused 29 p) accepted
+linkFault s bound depth p = cond (badLink s p) (broken 29 p) accepted
 
 link-fine : (s : List ℕ) (bound depth p : ℕ) → linkFault s bound depth p ≡ accepted → badLink s p ≡ false
 unfolding linkFault
 link-fine s bound depth p e = go (badLink s p) e
   where
-    go : (b : Bool) → cond b (refused 29 p) accepted ≡ accepted → b ≡ false
+    go : (b : Bool) → cond b (broken 29 p) accepted ≡ accepted → b ≡ false
     go true f = absurd (not-both f refl)
     go false f = refl
 
-link-broken : (s : List ℕ) (bound depth p n x : ℕ) → linkFault s bound depth p ≡ refused n x → (badLink s p ≡ true) × (n ≡ 29) × (x ≡ p)
+link-broken : (s : List ℕ) (bound depth p n x : ℕ) → linkFault s bound depth p ≡ broken n x → (badLink s p ≡ true) × (n ≡ 29) × (x ≡ p)
 unfolding linkFault
 link-broken s bound depth p n x e = go (badLink s p) e
   where
-    go : (b : Bool) → cond b (refused 29 p) accepted ≡ refused n x → (b ≡ true) × (n ≡ 29) × (x ≡ p)
+    go : (b : Bool) → cond b (broken 29 p) accepted ≡ broken n x → (b ≡ true) × (n ≡ 29) × (x ≡ p)
     go true f = (refl, (cc), (cc))
     go false f = absurd (not-both refl f)
 
@@ -97,7 +96,7 @@ links-none s h =
     let e : least (λ p. isReached s p && badLink s p) (fullSize s) ≡ fullSize s = least-all (faulty s) (fullSize s) (λ i l. not-faulty s i (h i)) in
     rw (e, le-ltb (fullSize s) (fullSize s) (omega arith))
 
-pub links-at : (s : List ℕ) (x : ℕ) → x < fullSize s → isReached s x ≡ true → badLink s x ≡ true → ((p : ℕ) → p < x → isReached s p ≡ true → badLink s p ≡ false) → links s ≡ refused 29 x
+pub links-at : (s : List ℕ) (x : ℕ) → x < fullSize s → isReached s x ≡ true → badLink s x ≡ true → ((p : ℕ) → p < x → isReached s p ≡ true → badLink s p ≡ false) → links s ≡ broken 29 x
 unfolding links
 links-at s x h r t below =
     let e : least (λ p. isReached s p && badLink s p) (fullSize s) ≡ x = least-is (faulty s) (fullSize s) x h (of-true (faulty s x) (both (isReached s x) (badLink s x) r t)) (λ i l. not-faulty s i (below i l)) in
@@ -107,7 +106,7 @@ module _ (s : List ℕ) (v : Volume s) (w : walk s ≡ accepted) where
   abbrev Low : ℕ → ℕ → Type 0
   Low n x = Lowest s (linkFault s) (Reached s) (λ q b d r t. sound s v w r) (λ q b d r t z. along r z) (λ q b d r t u. inside r (list-descends s q u) (list-first s q u)) (λ q b d n x e. link-broken s b d q n x e .2) (firstRoot s) (fullSize s) 1 n x
 
-  visit-low : (n x : ℕ) → firstRoot s ≢ fullSize s → visitAll s (linkFault s) ≡ refused n x → Low n x
+  visit-low : (n x : ℕ) → firstRoot s ≢ fullSize s → visitAll s (linkFault s) ≡ broken n x → Low n x
   visit-low n x z e =
       lowest s (linkFault s) (Reached s) (λ q b d r t. sound s v w r) (λ q b d r t y. along r y) (λ q b d r t u. inside r (list-descends s q u) (list-first s q u)) (λ q b d n x e. link-broken s b d q n x e .2) 7
       (fullSize s - firstRoot s) (firstRoot s) (fullSize s) 1 n x
@@ -122,7 +121,7 @@ module _ (s : List ℕ) (v : Volume s) (w : walk s ≡ accepted) where
       a ∙ sym (links-none s (λ p e.
       let r : IsReached s p = is-reached s p e in
       link-fine s (r .bound) (r .depth) p (all-met s v (linkFault s) a (has-root (r .reached)) (met s v w (r .reached)))))
-  links-by (broken n x a) =
+  links-by (fails n x a) =
       elim (ℕ-discrete (firstRoot s) (fullSize s)) [
         | yes z ↦ absurd (not-both (visit-none s (linkFault s) z) a)
         | no z ↦
@@ -130,7 +129,7 @@ module _ (s : List ℕ) (v : Volume s) (w : walk s ≡ accepted) where
             let bad = link-broken s (low .b) (low .d) x n x (low .refuses) in
             let x-in = reached-in s v w (low .known) in
             a
-            ∙ ap (λ (m : ℕ). refused m x) (bad .1)
+            ∙ ap (λ (m : ℕ). broken m x) (bad .1)
             ∙ sym (links-at s x (omega arith) (reached-is s x v w (record { bound = low .b; depth = low .d; reached = low .known })) (bad .0)
             (λ p l e.
             let r : IsReached s p = is-reached s p e in
@@ -149,11 +148,11 @@ unless-linked s i t e = go (isReached s i) (badLink s i) t e
     go true b u f = no-false b u
     go false b u f = absurd (true-false refl (sym f))
 
-cond-fine : (b : Bool) (x : ℕ) → cond b (refused 29 x) accepted ≡ accepted → b ≡ false
+cond-fine : (b : Bool) (x : ℕ) → cond b (broken 29 x) accepted ≡ accepted → b ≡ false
 cond-fine true x e = absurd (not-both e refl)
 cond-fine false x e = refl
 
-cond-broken : (b : Bool) (x n p : ℕ) → cond b (refused 29 x) accepted ≡ refused n p → (b ≡ true) × (n ≡ 29) × (x ≡ p)
+cond-broken : (b : Bool) (x n p : ℕ) → cond b (broken 29 x) accepted ≡ broken n p → (b ≡ true) × (n ≡ 29) × (x ≡ p)
 cond-broken true x n p e = (refl, (cc), (cc))
 cond-broken false x n p e = absurd (not-both refl e)
 
@@ -169,7 +168,7 @@ pub record LowestLink (s : List ℕ) (n p : ℕ) : Type 0 where
   pub bad : badLink s p ≡ true
   pub lower : (i : ℕ) → i < p → isReached s i ≡ true → badLink s i ≡ false
 
-pub links-lowest : (s : List ℕ) (n p : ℕ) → links s ≡ refused n p → LowestLink s n p
+pub links-lowest : (s : List ℕ) (n p : ℕ) → links s ≡ broken n p → LowestLink s n p
 unfolding links
 links-lowest s n p e =
     let c = cond-broken (ltb (least (faulty s) (fullSize s)) (fullSize s)) (least (faulty s) (fullSize s)) n p e in

@@ -8,19 +8,18 @@ use native.Mathlib.Omega.{arith}
 use native.Mathlib.Decide.{ℕ-discrete}
 use native.Mathlib.Numerals.{sub-one}
 use Rattle.romfs_spec.specs.Layout.{next, info, own, hasList}
-use Rattle.romfs_spec.specs.Rules.{Verdict, accepted, refused}
-use Rattle.romfs_spec.specs.Reached.{Sound}
-use Rattle.romfs_spec.specs.Check.{visitList, visitEntry}
+use Rattle.romfs_spec.specs.Check.{Verdict, accepted, broken, visitList, visitEntry}
+use Rattle.romfs_proofs.specs.Tested.{Sound}
 use Rattle.romfs_proofs.specs.Facts.{room, next-from, next-to, own-next, first-to, depth-to, true-false}
 use Rattle.romfs_proofs.specs.Visit.{From, here, along, inside, Cases, same, later, below, cases, lies, not-both, list-refused, list-last, list-next, listOf, entry-refused, entry-leaf, entry-list, all}
 
 pub data Out (v : Verdict) : Type 0 where
   fine : v ≡ accepted → Out v
-  broken : (n q : ℕ) → v ≡ refused n q → Out v
+  fails : (n q : ℕ) → v ≡ broken n q → Out v
 
 pub out : (v : Verdict) → Out v
 out accepted = fine refl
-out (refused n q) = broken n q refl
+out (broken n q) = fails n q refl
 
 pub yes-no : (b : Bool) → (b ≡ true) ⊎ (b ≡ false)
 yes-no true = inl refl
@@ -42,20 +41,20 @@ module _ (s : List ℕ) (test : ℕ → ℕ → ℕ → Verdict) (R : ℕ → �
     (sound : (q b d : ℕ) → R q b d → test b d q ≡ accepted → Sound s q b d)
     (after : (q b d : ℕ) → R q b d → test b d q ≡ accepted → next s q ≢ 0 → R (next s q) b d)
     (under : (q b d : ℕ) → R q b d → test b d q ≡ accepted → hasList s q ≡ true → R (info s q) (own s b q) (suc d))
-    (placed : (q b d n x : ℕ) → test b d q ≡ refused n x → x ≡ q) where
+    (placed : (q b d n x : ℕ) → test b d q ≡ broken n x → x ≡ q) where
   -- x is refused with n, and no header below x is refused
   pub record Lowest (p bound depth n x : ℕ) : Type 0 where
     pub b : ℕ
     pub d : ℕ
     pub at : From s p bound depth x b d
     pub known : R x b d
-    pub refuses : test b d x ≡ refused n x
+    pub refuses : test b d x ≡ broken n x
     pub lower : (q c e : ℕ) → From s p bound depth q c e → q < x → test c e q ≡ accepted
 
   abbrev Low : ℕ → Type 0
-  Low left = (fuel p bound depth n x : ℕ) → R p bound depth → left + depth ≡ 8 → p < bound → bound - p ≤ fuel → visitList s (visitEntry s test left bound) fuel p ≡ refused n x → Lowest p bound depth n x
+  Low left = (fuel p bound depth n x : ℕ) → R p bound depth → left + depth ≡ 8 → p < bound → bound - p ≤ fuel → visitList s (visitEntry s test left bound) fuel p ≡ broken n x → Lowest p bound depth n x
 
-  low-here : (p bound depth n x m y : ℕ) → R p bound depth → p < bound → test bound depth p ≡ refused m y → refused m y ≡ refused n x → Lowest p bound depth n x
+  low-here : (p bound depth n x m y : ℕ) → R p bound depth → p < bound → test bound depth p ≡ broken m y → broken m y ≡ broken n x → Lowest p bound depth n x
   low-here p bound depth n x m y r h t e =
       let yp : y ≡ p = placed p bound depth m y t in
       let xp : x ≡ p = sym (let w : y ≡ x = cc in w) ∙ yp in
@@ -64,7 +63,7 @@ module _ (s : List ℕ) (test : ℕ → ℕ → ℕ → Verdict) (R : ℕ → �
         d = depth;
         at = subst (λ (z : ℕ). From s p bound depth z bound depth) (sym xp) here;
         known = subst (λ (z : ℕ). R z bound depth) (sym xp) r;
-        refuses = subst (λ (z : ℕ). test bound depth z ≡ refused n x) (sym xp) (t ∙ e);
+        refuses = subst (λ (z : ℕ). test bound depth z ≡ broken n x) (sym xp) (t ∙ e);
         lower = λ q c d f l. absurd (let g = lies h f in omega arith);
       }
 
@@ -102,28 +101,28 @@ module _ (s : List ℕ) (test : ℕ → ℕ → ℕ → Verdict) (R : ℕ → �
   }
 
   -- an accepted entry: the list ends, and nothing was refused, or goes on
-  low-on : (left fuel p bound depth n x : ℕ) → visitList s (visitEntry s test left bound) (suc fuel) p ≡ refused n x → visitEntry s test left bound p ≡ accepted → R p bound depth → test bound depth p ≡ accepted → Sound s p bound depth → ((q c e : ℕ) → hasList s p ≡ true → From s (info s p) (own s bound p) (suc depth) q c e → test c e q ≡ accepted) → (next s p ≢ 0 → visitList s (visitEntry s test left bound) fuel (next s p) ≡ refused n x → Lowest (next s p) bound depth n x) → Lowest p bound depth n x
+  low-on : (left fuel p bound depth n x : ℕ) → visitList s (visitEntry s test left bound) (suc fuel) p ≡ broken n x → visitEntry s test left bound p ≡ accepted → R p bound depth → test bound depth p ≡ accepted → Sound s p bound depth → ((q c e : ℕ) → hasList s p ≡ true → From s (info s p) (own s bound p) (suc depth) q c e → test c e q ≡ accepted) → (next s p ≢ 0 → visitList s (visitEntry s test left bound) fuel (next s p) ≡ broken n x → Lowest (next s p) bound depth n x) → Lowest p bound depth n x
   low-on left fuel p bound depth n x e en r t o list rest =
       elim (ℕ-discrete (next s p) 0) [
         | yes z ↦ absurd (not-both (list-last s (visitEntry s test left bound) (suc fuel) p (omega arith) en z) e)
         | no z ↦ low-rest p bound depth n x t o z list (rest z (sym (rw sub-one at (list-next s (visitEntry s test left bound) (suc fuel) p (omega arith) en z)) ∙ e))
       ]
 
-  low-below : (left fuel p bound depth n x : ℕ) → (left ≢ 0 → Low (left - 1)) → p < bound → left + depth ≡ 8 → visitList s (visitEntry s test left bound) (suc fuel) p ≡ refused n x → R p bound depth → test bound depth p ≡ accepted → Sound s p bound depth → hasList s p ≡ true → (next s p ≢ 0 → visitList s (visitEntry s test left bound) fuel (next s p) ≡ refused n x → Lowest (next s p) bound depth n x) → Out (listOf s test bound p (left - 1)) → Lowest p bound depth n x
+  low-below : (left fuel p bound depth n x : ℕ) → (left ≢ 0 → Low (left - 1)) → p < bound → left + depth ≡ 8 → visitList s (visitEntry s test left bound) (suc fuel) p ≡ broken n x → R p bound depth → test bound depth p ≡ accepted → Sound s p bound depth → hasList s p ≡ true → (next s p ≢ 0 → visitList s (visitEntry s test left bound) fuel (next s p) ≡ broken n x → Lowest (next s p) bound depth n x) → Out (listOf s test bound p (left - 1)) → Lowest p bound depth n x
   low-below left fuel p bound depth n x deep h l e r t o u rest (fine a) =
       let some : left ≢ 0 = omega (arith, depth-to s p bound depth o u) in
       low-on left fuel p bound depth n x e (entry-list s test bound p left depth l some t u ∙ a) r t o
       (λ q c d u₂ g. all s test (left - 1) (own s bound p - info s p) (info s p) (own s bound p) (suc depth) q c d (omega arith) (first-to s p bound depth o u) (omega arith) a g)
       rest
-  low-below left fuel p bound depth n x deep h l e r t o u rest (broken m y a) =
+  low-below left fuel p bound depth n x deep h l e r t o u rest (fails m y a) =
       let some : left ≢ 0 = omega (arith, depth-to s p bound depth o u) in
-      let en : visitEntry s test left bound p ≡ refused m y = entry-list s test bound p left depth l some t u ∙ a in
-      let v : refused m y ≡ refused n x = sym (list-refused s (visitEntry s test left bound) (suc fuel) p m y (omega arith) en) ∙ e in
+      let en : visitEntry s test left bound p ≡ broken m y = entry-list s test bound p left depth l some t u ∙ a in
+      let v : broken m y ≡ broken n x = sym (list-refused s (visitEntry s test left bound) (suc fuel) p m y (omega arith) en) ∙ e in
       low-list p bound depth n x h t o u
       (deep some (own s bound p - info s p) (info s p) (own s bound p) (suc depth) n x (under p bound depth r t u) (omega arith) (first-to s p bound depth o u) (omega arith) (a ∙ v))
 
-  low-entry : (left fuel p bound depth n x : ℕ) → (left ≢ 0 → Low (left - 1)) → p < bound → left + depth ≡ 8 → visitList s (visitEntry s test left bound) (suc fuel) p ≡ refused n x → R p bound depth → (Sound s p bound depth → R p bound depth → test bound depth p ≡ accepted → next s p ≢ 0 → visitList s (visitEntry s test left bound) fuel (next s p) ≡ refused n x → Lowest (next s p) bound depth n x) → Out (test bound depth p) → Lowest p bound depth n x
-  low-entry left fuel p bound depth n x deep h l e r rest (broken m y t) =
+  low-entry : (left fuel p bound depth n x : ℕ) → (left ≢ 0 → Low (left - 1)) → p < bound → left + depth ≡ 8 → visitList s (visitEntry s test left bound) (suc fuel) p ≡ broken n x → R p bound depth → (Sound s p bound depth → R p bound depth → test bound depth p ≡ accepted → next s p ≢ 0 → visitList s (visitEntry s test left bound) fuel (next s p) ≡ broken n x → Lowest (next s p) bound depth n x) → Out (test bound depth p) → Lowest p bound depth n x
+  low-entry left fuel p bound depth n x deep h l e r rest (fails m y t) =
       low-here p bound depth n x m y r h t
       (sym (list-refused s (visitEntry s test left bound) (suc fuel) p m y (omega arith) (entry-refused s test bound p left depth m y l t)) ∙ e)
   low-entry left fuel p bound depth n x deep h l e r rest (fine t) =

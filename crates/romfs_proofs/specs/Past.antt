@@ -15,31 +15,22 @@ use Rattle.lists.specs.Lists.{sameList, least, zeroAt, word, part}
 use Rattle.list_laws.specs.Least.{least-le, least-cong}
 use Rattle.list_laws.specs.Word.{word-cong}
 use Rattle.list_laws.specs.Part.{getD-part}
-use Rattle.romfs_spec.specs.Layout.{fullSize, nameLength, nameEnds, afterName, firstRoot, kind, executable, next, info, size, name, contentAt, endOf, own, isDots, descends, hasList, hasData, wordSum}
-use Rattle.romfs_spec.specs.Rules.{Verdict, accepted, refused, short21, magic22, size23, sum24, name25, overBound, badName, badSum, badInfo, badSize, badHeader, badNext, badFirst, badNesting, tooDeep, fault}
-use Rattle.romfs_spec.specs.Reached.{along, IsReached, Sound, root}
-use Rattle.romfs_spec.specs.Check.{andThen, visitList, visitEntry, visitAll, walk, towards, seek, isReached, badLink, links, volume, check}
-use Rattle.romfs_spec.specs.Answers.{Answer, granted, denied, checked, firstOf, matchFrom, matchIn, isDirectory, found, find, entryAt, described, entry, measured, contentLength, partOf, content, contentStart}
+use Rattle.romfs_spec.specs.Layout.{fullSize, nameLength, nameEnds, afterName, firstRoot, fileType, executable, next, info, size, name, contentAt, endOf, own, isDots, descends, hasList, hasData, wordSum}
+use Rattle.romfs_spec.specs.Check.{Verdict, accepted, broken, tooShort, badMagic, badFullSize, badVolumeSum, badVolumeName, overBound, badName, badSum, badInfo, badSize, badHeader, badNext, badFirst, badNesting, tooDeep, fault, andThen, visitList, visitEntry, visitAll, walk, towards, seek, isReached, badLink, links, volume, check}
+use Rattle.romfs_proofs.specs.Tested.{along, IsReached, Sound, root}
+use Rattle.romfs_spec.specs.Requests.{Answer, granted, refused, checked, firstOf, matchFrom, matchIn, isDirectory, findStep, find, entryAt, entryStep, entry, contentStep, contentLength, partOf, content, contentStart}
 use Rattle.romfs_proofs.specs.Facts.{and-yes-l, fault-sound, next-to, own-to, first-16, first-to}
 use Rattle.romfs_proofs.specs.Visit.{entry-test}
 use Rattle.romfs_proofs.specs.Walked.{Volume, volume-of, full-16, root-in, reached-room}
 use Rattle.romfs_proofs.specs.Seek.{is-reached, towards-reached}
 use Rattle.romfs_proofs.specs.Theorems.{check-parts}
+use Rattle.romfs_spec.specs.Statements.{SameFull, SameAnswers}
+use Rattle.romfs_proofs.specs.Plain.{full-is}
 use Rattle.romfs_proofs.specs.Given.{dir-is, first-reached, content-in}
 
--- t holds the same first F bytes as s. Where F is under 32, which 23 refuses, the first 32 are the same, for F itself stands in them.
-abbrev pub SameFull : List ℕ → List ℕ → Type 0
-SameFull s t = take (max 32 (fullSize s)) t ≡ take (max 32 (fullSize s)) s
-
--- every request on t answers as on s
-pub record SameAnswers (s t : List ℕ) : Type 0 where
-  pub checks : check t ≡ check s
-  pub finds : (dir : ℕ) (want : List ℕ) → find t dir want ≡ find s dir want
-  pub entries : (p : ℕ) → entry t p ≡ entry s p
-  pub lengths : (p : ℕ) → contentLength t p ≡ contentLength s p
-  pub contents : (p : ℕ) → content t p ≡ content s p
-  -- where the content begins
-  pub starts : (p : ℕ) → contentStart t p ≡ contentStart s p
+-- t holds the same first F bytes as s, by fullSize
+abbrev Same : List ℕ → List ℕ → Type 0
+Same s t = take (max 32 (fullSize s)) t ≡ take (max 32 (fullSize s)) s
 
 -- ---- what a test keeps out need not be the same
 cond-then {ℓ} : {X : Type ℓ} (b : Bool) (x y z : X) → (b ≡ true → x ≡ y) → cond b x z ≡ cond b y z
@@ -60,11 +51,11 @@ or-else false b c h = h refl
 
 then-else : (v x y : Verdict) → (v ≡ accepted → x ≡ y) → andThen v x ≡ andThen v y
 then-else accepted x y h = h refl
-then-else (refused n p) x y h = refl
+then-else (broken n p) x y h = refl
 
 checked-then : {A : Type 0} (v : Verdict) (x y : Answer A) → (v ≡ accepted → x ≡ y) → checked v x ≡ checked v y
 checked-then accepted x y h = h refl
-checked-then (refused n p) x y h = refl
+checked-then (broken n p) x y h = refl
 
 -- a part of the first m bytes is one of the whole
 part-take : (m a n : ℕ) (l : List ℕ) → a + n ≤ m → part a n (take m l) ≡ part a n l
@@ -84,7 +75,7 @@ root-16 : (s : List ℕ) → firstRoot s % 16 ≡ 0
 unfolding firstRoot afterName
 root-16 s = omega arith
 
-module _ (s t : List ℕ) (same : SameFull s t) where
+module _ (s t : List ℕ) (same : Same s t) where
   -- ---- bytes, words and names below F
   byte : (i : ℕ) → i < max 32 (fullSize s) → getD t i 0 ≡ getD s i 0
   byte i h =
@@ -107,7 +98,7 @@ module _ (s t : List ℕ) (same : SameFull s t) where
   sum-at p zero h = refl
   sum-at p (suc n) h = rw (sum-at p n (omega arith), word-at (p + 4 * n) (omega arith))
 
-  part-at : (a n : ℕ) → a + n ≤ fullSize s → part a n t ≡ part a n s
+  part-at : (a n : ℕ) → a + n ≤ max 32 (fullSize s) → part a n t ≡ part a n s
   part-at a n h =
       sym (part-take (max 32 (fullSize s)) a n t (omega arith))
       ∙ ap (part a n) same
@@ -144,15 +135,15 @@ module _ (s t : List ℕ) (same : SameFull s t) where
       ]
 
   volume-same : volume t ≡ volume s
-  unfolding volume short21 magic22 size23 sum24 name25
+  unfolding volume tooShort badMagic badFullSize badVolumeSum badVolumeName
   volume-same =
-      rw (less-at 32 (omega arith), word-at 0 (omega arith), word-at 4 (omega arith), full, less-at (fullSize s) (omega arith), sum-at 0 (min 512 (fullSize s) / 4) (omega arith), name-ends 16)
+      rw (less-at 32 (omega arith), part-at 0 8 (omega arith), full, less-at (fullSize s) (omega arith), sum-at 0 (min 512 (fullSize s) / 4) (omega arith), name-ends 16)
 
   -- ---- a header inside F
   module _ (p : ℕ) (fits : p + 16 ≤ fullSize s) where
-    kind-at : kind t p ≡ kind s p
-    unfolding kind
-    kind-at = rw (word-at p (omega arith))
+    type-at : fileType t p ≡ fileType s p
+    unfolding fileType
+    type-at = rw (word-at p (omega arith))
 
     executable-at : executable t p ≡ executable s p
     unfolding executable
@@ -188,7 +179,7 @@ module _ (s t : List ℕ) (same : SameFull s t) where
 
     descends-at : descends t p ≡ descends s p
     unfolding descends
-    descends-at = rw (kind-at, dots-at)
+    descends-at = rw (type-at, dots-at)
 
     list-at : hasList t p ≡ hasList s p
     unfolding hasList
@@ -207,7 +198,7 @@ module _ (s t : List ℕ) (same : SameFull s t) where
     header-at : (bound : ℕ) → bound ≤ fullSize s → badHeader t bound p ≡ badHeader s bound p
     unfolding badHeader overBound badName badInfo badSize
     header-at bound h =
-        rw (end-at, name-length (p + 16), name-ends (p + 16), kind-at, info-at, size-at)
+        rw (end-at, name-length (p + 16), name-ends (p + 16), type-at, info-at, size-at)
         (or-else (overBound s bound p) _ _ (λ o. rw (sum-bad bound h o)))
 
     nesting-at : (bound : ℕ) → badNesting t bound p ≡ badNesting s bound p
@@ -288,15 +279,15 @@ module _ (s t : List ℕ) (same : SameFull s t) where
         (λ z. seek-at want (fullSize s) (firstRoot s) (record { bound = fullSize s; depth = 1; reached = root (eqb-false (firstRoot s) (fullSize s) z) })))
 
     -- the type is asked only of a reached header
-    kind-reached : (p : ℕ) → isReached s p ≡ true → kind t p ≡ kind s p
-    kind-reached p e = kind-at p (reached-at p (is-reached s p e))
+    type-reached : (p : ℕ) → isReached s p ≡ true → fileType t p ≡ fileType s p
+    type-reached p e = type-at p (reached-at p (is-reached s p e))
 
     -- 29
     link-at : (p : ℕ) → isReached s p ≡ true → badLink t p ≡ badLink s p
     unfolding badLink
     link-at p e =
         let h : p + 16 ≤ fullSize s = reached-at p (is-reached s p e) in
-        rw (kind-at p h, info-at p h, dots-at p h, is-at (info s p), and-then (isReached s (info s p)) _ _ (λ r. ap (λ (k : ℕ). not (eqb k 0)) (kind-reached (info s p) r)))
+        rw (type-at p h, info-at p h, dots-at p h, is-at (info s p), and-then (isReached s (info s p)) _ _ (λ r. ap (λ (k : ℕ). not (eqb k 0)) (type-reached (info s p) r)))
 
     links-same : links t ≡ links s
     unfolding links
@@ -309,7 +300,7 @@ module _ (s t : List ℕ) (same : SameFull s t) where
     -- ---- find, entry and content
     directory-at : (dir : ℕ) → isDirectory t dir ≡ isDirectory s dir
     unfolding isDirectory
-    directory-at dir = rw (is-at dir, and-then (isReached s dir) _ _ (λ r. ap (λ (k : ℕ). eqb k 1) (kind-reached dir r)))
+    directory-at dir = rw (is-at dir, and-then (isReached s dir) _ _ (λ r. ap (λ (k : ℕ). eqb k 1) (type-reached dir r)))
 
     first-at : (dir : ℕ) → isDirectory s dir ≡ true → firstOf t dir ≡ firstOf s dir
     unfolding firstOf
@@ -324,21 +315,21 @@ module _ (s t : List ℕ) (same : SameFull s t) where
         (cond-else (sameList (name s p) want) _ _ p
         (λ o. cond-else (eqb (next s p) 0) _ _ 0 (λ z. match-at want fuel (next s p) (record { bound = r .bound; depth = r .depth; reached = along (r .reached) (eqb-false (next s p) 0 z) }))))
 
-    described-at : (p : ℕ) → described t p ≡ described s p
-    unfolding described entryAt
+    described-at : (p : ℕ) → entryStep t p ≡ entryStep s p
+    unfolding entryStep entryAt
     described-at p =
         rw (is-at p, name-length (p + 16))
         (cond-then (isReached s p) _ _ _
         (λ e.
         let h : p + 16 ≤ fullSize s = reached-at p (is-reached s p e) in
-        rw (kind-at p h, executable-at p h, info-at p h, size-at p h, next-at p h)))
+        rw (type-at p h, executable-at p h, info-at p h, size-at p h, next-at p h)))
 
-    measured-at : (p : ℕ) → measured t p ≡ measured s p
-    unfolding measured
+    measured-at : (p : ℕ) → contentStep t p ≡ contentStep s p
+    unfolding contentStep
     measured-at p =
-        rw (is-at p, and-then (isReached s p) _ _ (λ e. ap hasData (kind-reached p e)))
-        (cond-then (isReached s p && hasData (kind s p)) _ _ _
-        (λ e. ap granted (size-at p (reached-at p (is-reached s p (and-yes-l (isReached s p) (hasData (kind s p)) e))))))
+        rw (is-at p, and-then (isReached s p) _ _ (λ e. ap hasData (type-reached p e)))
+        (cond-then (isReached s p && hasData (fileType s p)) _ _ _
+        (λ e. ap granted (size-at p (reached-at p (is-reached s p (and-yes-l (isReached s p) (hasData (fileType s p)) e))))))
 
   -- ---- the requests
   check-same : check t ≡ check s
@@ -348,8 +339,8 @@ module _ (s t : List ℕ) (same : SameFull s t) where
       (then-else (volume s) _ _
       (λ a. rw (walk-same (volume-of s a)) (then-else (walk s) _ _ (links-same (volume-of s a)))))
 
-  found-same : (dir : ℕ) (want : List ℕ) → check s ≡ accepted → found t dir want ≡ found s dir want
-  unfolding found matchIn
+  found-same : (dir : ℕ) (want : List ℕ) → check s ≡ accepted → findStep t dir want ≡ findStep s dir want
+  unfolding findStep matchIn
   found-same dir want a =
       let parts = check-parts s a in
       let v : Volume s = volume-of s (parts .0) in
@@ -371,8 +362,8 @@ module _ (s t : List ℕ) (same : SameFull s t) where
   content-same p = rw (content-at p, length-same p) (go (contentLength s p) (λ n e. content-in s p n e .inside))
     where
       go : (x : Answer ℕ) → ((n : ℕ) → x ≡ granted n → contentAt s p + n ≤ fullSize s) → partOf t (contentAt s p) x ≡ partOf s (contentAt s p) x
-      go (granted n) h = part-at (contentAt s p) n (h n refl)
-      go (denied n q) h = refl
+      go (granted n) h = part-at (contentAt s p) n (omega (arith, h n refl))
+      go (refused n q) h = refl
 
   start-same : (p : ℕ) → contentStart t p ≡ contentStart s p
   unfolding contentStart
@@ -381,7 +372,8 @@ module _ (s t : List ℕ) (same : SameFull s t) where
 -- No answer depends on the bytes past F, whether the image is accepted or refused.
 pub past-full : (s t : List ℕ) → SameFull s t → SameAnswers s t
 unfolding find entry
-past-full s t same =
+past-full s t given =
+    let same : Same s t = rw (full-is s) given in
     record {
       checks = check-same s t same;
       finds = λ dir want. rw (check-same s t same) (checked-then (check s) _ _ (found-same s t same dir want));

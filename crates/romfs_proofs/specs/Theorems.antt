@@ -1,18 +1,17 @@
 -- What the check says: it accepts exactly the accepted images, and each refusal is given exactly when the rules say.
 use Prim.Native.Nat.{ℕ, zero, suc, _-_, _≤_, _<_}
 use mathlib.Core.Path.{_≡_, refl, sym, ap, subst, _∙_}
-use mathlib.Core.Logic.{_≢_, ⊎-elim, _↔_}
+use mathlib.Core.Logic.{_≢_, _⊎_, inl, inr, ⊎-elim, _↔_}
 use mathlib.Core.Bool.{true, false}
 use mathlib.Core.List.{List}
 use native.Mathlib.Omega.{arith}
 use native.Mathlib.Decide.{ℕ-discrete, decLt}
-use Rattle.romfs_spec.specs.Layout.{fullSize, firstRoot, next, info, own, descends, hasList}
-use Rattle.romfs_spec.specs.Rules.{Verdict, accepted, refused, short21, magic22, size23, sum24, name25, fault}
-use Rattle.romfs_spec.specs.Reached.{Reached, root, along, inside, IsReached, Sound, Linked, Accepted}
-use Rattle.romfs_spec.specs.Check.{andThen, walk, badLink, links, volume, check}
-use Rattle.romfs_proofs.specs.Facts.{has-list, room, next-from, next-to, own-next, first-from, first-to, depth-to, true-false, fault-sound, sound-fault, fault-place}
+use Rattle.romfs_spec.specs.Layout.{fullSize, firstRoot, next, info, own, hasList}
+use Rattle.romfs_spec.specs.Check.{Verdict, accepted, broken, tooShort, badMagic, badFullSize, badVolumeSum, badVolumeName, fault, andThen, walk, badLink, links, volume, check}
+use Rattle.romfs_proofs.specs.Tested.{Reached, IsReached, Sound, Linked, Accepted}
+use Rattle.romfs_proofs.specs.Facts.{room, next-from, next-to, own-next, first-from, first-to, true-false, fault-sound, sound-fault, fault-place, fault-number}
 use Rattle.romfs_proofs.specs.Visit.{From, Cases, same, later, below, cases, lies, not-both, then-accepted}
-use Rattle.romfs_proofs.specs.Lowest.{lowest, Out, fine, broken, out, yes-no}
+use Rattle.romfs_proofs.specs.Lowest.{lowest, Out, fine, fails, out, yes-no}
 use Rattle.romfs_proofs.specs.Walked.{Volume, volume-of, of-volume, root-in, has-root, met, Met, met-reached, all-met, sound, visit-none, visit-root, reached-in}
 use Rattle.romfs_proofs.specs.Seek.{is-reached, reached-is}
 use Rattle.romfs_proofs.specs.Links.{linked-of, of-linked, links-none, links-at, links-clear, LowestLink, links-lowest}
@@ -24,7 +23,7 @@ pub record FirstFault (s : List ℕ) (n p : ℕ) : Type 0 where
   pub bound : ℕ
   pub depth : ℕ
   pub met : Met s p bound depth
-  pub broken : fault s bound depth p ≡ refused n p
+  pub fails : fault s bound depth p ≡ broken n p
   pub lower : (q b d : ℕ) → Met s q b d → q < p → Sound s q b d
 
 -- the place of p below a header: once
@@ -66,7 +65,7 @@ module _ (s : List ℕ) (q : ℕ) where
       (way (cases f)) (way (cases g))
 
 module _ (s : List ℕ) (v : Volume s) where
-  walk-first : (n p : ℕ) → walk s ≡ refused n p → FirstFault s n p
+  walk-first : (n p : ℕ) → walk s ≡ broken n p → FirstFault s n p
   unfolding walk
   walk-first n p e =
       elim (ℕ-discrete (firstRoot s) (fullSize s)) [
@@ -78,38 +77,38 @@ module _ (s : List ℕ) (v : Volume s) where
               bound = low .b;
               depth = low .d;
               met = low .at;
-              broken = low .refuses;
+              fails = low .refuses;
               lower = λ q b d m l. fault-sound s q b d (low .lower q b d m l);
             }
       ]
 
-  first-is : (n p m y : ℕ) → FirstFault s n p → FirstFault s m y → refused m y ≡ refused n p
+  first-is : (n p m y : ℕ) → FirstFault s n p → FirstFault s m y → broken m y ≡ broken n p
   first-is n p m y f g =
       elim (decLt p y) [
-        | yes l ↦ absurd (not-both (sound-fault s p (f .bound) (f .depth) (g .lower p (f .bound) (f .depth) (f .met) l)) (f .broken))
+        | yes l ↦ absurd (not-both (sound-fault s p (f .bound) (f .depth) (g .lower p (f .bound) (f .depth) (f .met) l)) (f .fails))
         | no l ↦ elim (decLt y p) [
-          | yes k ↦ absurd (not-both (sound-fault s y (g .bound) (g .depth) (f .lower y (g .bound) (g .depth) (g .met) k)) (g .broken))
+          | yes k ↦ absurd (not-both (sound-fault s y (g .bound) (g .depth) (f .lower y (g .bound) (g .depth) (g .met) k)) (g .fails))
           | no k ↦
               let e : y ≡ p = omega arith in
               let u = once s p (suc p) (firstRoot s) (fullSize s) 1 (g .bound) (g .depth) (f .bound) (f .depth) (root-in s v (f .some)) (omega arith) (subst (λ (x : ℕ). Met s x (g .bound) (g .depth)) e (g .met)) (f .met) in
-              sym (g .broken) ∙ rw (e, u .0, u .1) (f .broken)
+              sym (g .fails) ∙ rw (e, u .0, u .1) (f .fails)
         ]
       ]
 
-  first-by : (n p : ℕ) → FirstFault s n p → Out (walk s) → walk s ≡ refused n p
+  first-by : (n p : ℕ) → FirstFault s n p → Out (walk s) → walk s ≡ broken n p
   unfolding walk
-  first-by n p f (fine a) = absurd (not-both (all-met s v (fault s) a (f .some) (f .met)) (f .broken))
-  first-by n p f (broken m y a) = a ∙ first-is n p m y f (walk-first m y a)
+  first-by n p f (fine a) = absurd (not-both (all-met s v (fault s) a (f .some) (f .met)) (f .fails))
+  first-by n p f (fails m y a) = a ∙ first-is n p m y f (walk-first m y a)
 
   -- 26, 27, 28: the walk refuses the lowest header at fault
-  pub walk-refused : (n p : ℕ) → (walk s ≡ refused n p) ↔ FirstFault s n p
+  pub walk-refused : (n p : ℕ) → (walk s ≡ broken n p) ↔ FirstFault s n p
   walk-refused n p = (walk-first n p, λ f. first-by n p f (out (walk s)))
 
   walk-by : ((p b d : ℕ) → Reached s p b d → Sound s p b d) → Out (walk s) → walk s ≡ accepted
   walk-by h (fine a) = a
-  walk-by h (broken n p a) =
+  walk-by h (fails n p a) =
       let f : FirstFault s n p = walk-first n p a in
-      absurd (not-both (sound-fault s p (f .bound) (f .depth) (h p (f .bound) (f .depth) (met-reached (f .some) (f .met)))) (f .broken))
+      absurd (not-both (sound-fault s p (f .bound) (f .depth) (h p (f .bound) (f .depth) (met-reached (f .some) (f .met)))) (f .fails))
 
   -- the walk accepts where every reached header is sound
   pub walk-accepted : (walk s ≡ accepted) ↔ ((p b d : ℕ) → Reached s p b d → Sound s p b d)
@@ -119,28 +118,28 @@ module _ (s : List ℕ) (v : Volume s) where
 -- p is the lowest reached header with a bad link
 pub record FirstLink (s : List ℕ) (p : ℕ) : Type 0 where
   pub reached : IsReached s p
-  pub broken : Linked s p → ⊥
+  pub fails : Linked s p → ⊥
   pub lower : (q : ℕ) → IsReached s q → q < p → Linked s q
 
 module _ (s : List ℕ) (v : Volume s) (w : walk s ≡ accepted) where
-  link-first : (p : ℕ) → links s ≡ refused 29 p → FirstLink s p
+  link-first : (p : ℕ) → links s ≡ broken 29 p → FirstLink s p
   link-first p e =
       let l : LowestLink s 29 p = links-lowest s 29 p e in
       record {
         reached = is-reached s p (l .reached);
-        broken = λ k. true-false (l .bad) (of-linked s p v w k);
+        fails = λ k. true-false (l .bad) (of-linked s p v w k);
         lower = λ q r h. linked-of s q (l .lower q h (reached-is s q v w r));
       }
 
-  first-link : (p : ℕ) → FirstLink s p → links s ≡ refused 29 p
+  first-link : (p : ℕ) → FirstLink s p → links s ≡ broken 29 p
   first-link p f =
       let p-in = reached-in s v w (f .reached .reached) in
       links-at s p (omega arith) (reached-is s p v w (f .reached))
-      (⊎-elim (λ b. b) (λ b. absurd (f .broken (linked-of s p b))) (yes-no (badLink s p)))
+      (⊎-elim (λ b. b) (λ b. absurd (f .fails (linked-of s p b))) (yes-no (badLink s p)))
       (λ q l e. of-linked s q v w (f .lower q (is-reached s q e) l))
 
   -- 29: the lowest reached header with a bad link
-  pub links-refused : (p : ℕ) → (links s ≡ refused 29 p) ↔ FirstLink s p
+  pub links-refused : (p : ℕ) → (links s ≡ broken 29 p) ↔ FirstLink s p
   links-refused p = (link-first p, first-link p)
 
   pub links-accepted : (links s ≡ accepted) ↔ ((p : ℕ) → IsReached s p → Linked s p)
@@ -188,51 +187,38 @@ pub check-accepted : (s : List ℕ) → (check s ≡ accepted) ↔ Accepted s
 check-accepted s = (accepts s, is-accepted s)
 
 -- ---- what the nesting gives on an accepted image
--- It rules out loops: next and a list that is descended to lie further on,
-pub reached-rises : {s : List ℕ} {p b d : ℕ} → Accepted s → Reached s p b d → (next s p ≢ 0 → p < next s p) × (descends s p ≡ true → info s p ≢ 0 → p < info s p)
-reached-rises {s} {p} {b} {d} a r = (
-  λ z. omega (arith, room s p, next-from s p b d (a .sound r) z),
-  λ t i. omega (arith, room s p, first-from s p b d (a .sound r) (has-list s p t i)),
-)
-
--- .. and a header stands in one list, with one bound and one depth.
+-- a header stands in one list, with one bound and one depth
 pub reached-once : {s : List ℕ} {p b d c e : ℕ} → Accepted s → Reached s p b d → Reached s p c e → (b ≡ c) × (d ≡ e)
 reached-once {s} {p} {b} {d} {c} {e} a q r =
     let parts = check-parts s (is-accepted s a) in
     let v : Volume s = volume-of s (parts .0) in
     once s p (suc p) (firstRoot s) (fullSize s) 1 b d c e (root-in s v (has-root q)) (omega arith) (met s v (parts .1) q) (met s v (parts .1) r)
 
--- The root is depth 1, the deepest list 8.
-pub reached-deep : {s : List ℕ} {p b d : ℕ} → Accepted s → Reached s p b d → d ≤ 8
-reached-deep a (root z) = omega arith
-reached-deep a (along r z) = reached-deep a r
-reached-deep {s} a (inside {p = p} {bound = b} {depth = d} r t i) = omega (arith, depth-to s p b d (a .sound r) (has-list s p t i))
-
 -- when a refusal is given, with its number and its place
 pub data Refused (s : List ℕ) : ℕ → ℕ → Type 0 where
-  at21 : short21 s ≡ true → Refused s 21 0
-  at22 : short21 s ≡ false → magic22 s ≡ true → Refused s 22 0
-  at23 : short21 s ≡ false → magic22 s ≡ false → size23 s ≡ true → Refused s 23 0
-  at24 : short21 s ≡ false → magic22 s ≡ false → size23 s ≡ false → sum24 s ≡ true → Refused s 24 0
-  at25 : short21 s ≡ false → magic22 s ≡ false → size23 s ≡ false → sum24 s ≡ false → name25 s ≡ true → Refused s 25 0
+  at21 : tooShort s ≡ true → Refused s 21 0
+  at22 : tooShort s ≡ false → badMagic s ≡ true → Refused s 22 0
+  at23 : tooShort s ≡ false → badMagic s ≡ false → badFullSize s ≡ true → Refused s 23 0
+  at24 : tooShort s ≡ false → badMagic s ≡ false → badFullSize s ≡ false → badVolumeSum s ≡ true → Refused s 24 0
+  at25 : tooShort s ≡ false → badMagic s ≡ false → badFullSize s ≡ false → badVolumeSum s ≡ false → badVolumeName s ≡ true → Refused s 25 0
   -- 26, 27, 28: none of 21 to 25 holds, and n is the fault of the lowest header at fault
   at-header : {n p : ℕ} → Volume s → FirstFault s n p → Refused s n p
   -- every reached header is sound, and p is the lowest with a bad link
   at-link : {p : ℕ} → Volume s → ((q b d : ℕ) → Reached s q b d → Sound s q b d) → FirstLink s p → Refused s 29 p
 
-at-volume : (s : List ℕ) (n : ℕ) → volume s ≡ refused n 0 → check s ≡ refused n 0
+at-volume : (s : List ℕ) (n : ℕ) → volume s ≡ broken n 0 → check s ≡ broken n 0
 unfolding check
 at-volume s n e = rw e
 
-at-walk : (s : List ℕ) (n p : ℕ) → volume s ≡ accepted → walk s ≡ refused n p → check s ≡ refused n p
+at-walk : (s : List ℕ) (n p : ℕ) → volume s ≡ accepted → walk s ≡ broken n p → check s ≡ broken n p
 unfolding check
 at-walk s n p v e = rw (v, e)
 
-at-links : (s : List ℕ) (n p : ℕ) → volume s ≡ accepted → walk s ≡ accepted → links s ≡ refused n p → check s ≡ refused n p
+at-links : (s : List ℕ) (n p : ℕ) → volume s ≡ accepted → walk s ≡ accepted → links s ≡ broken n p → check s ≡ broken n p
 unfolding check
 at-links s n p v w e = rw (v, w, e)
 
-refused-is : {s : List ℕ} {n p : ℕ} → Refused s n p → check s ≡ refused n p
+refused-is : {s : List ℕ} {n p : ℕ} → Refused s n p → check s ≡ broken n p
 unfolding volume
 refused-is {s} (at21 a) = at-volume s 21 (rw a)
 refused-is {s} (at22 a b) = at-volume s 22 (rw (a, b))
@@ -247,20 +233,20 @@ refused-is {s} (at-link {p = p} v h f) =
 -- what a verdict says of an image
 abbrev pub Given : List ℕ → Verdict → Type 0
 Given s accepted = Accepted s
-Given s (refused n p) = Refused s n p
+Given s (broken n p) = Refused s n p
 
 links-given : (s : List ℕ) (v : Volume s) (w : walk s ≡ accepted) → Out (links s) → Given s (check s)
 links-given s v w (fine a) = let e : check s ≡ accepted = parts-check s (of-volume s v) w a in rw e (accepts s e)
-links-given s v w (broken n p a) =
+links-given s v w (fails n p a) =
     let k : n ≡ 29 = links-lowest s n p a .number in
-    let b : links s ≡ refused 29 p = a ∙ ap (λ (m : ℕ). refused m p) k in
-    let e : check s ≡ refused 29 p = at-links s 29 p (of-volume s v) w b in
+    let b : links s ≡ broken 29 p = a ∙ ap (λ (m : ℕ). broken m p) k in
+    let e : check s ≡ broken 29 p = at-links s 29 p (of-volume s v) w b in
     rw e (at-link v (walk-accepted s v .0 w) (links-refused s v w p .0 b))
 
 walk-given : (s : List ℕ) (v : Volume s) → Out (walk s) → Given s (check s)
 walk-given s v (fine a) = links-given s v a (out (links s))
-walk-given s v (broken n p a) =
-    let e : check s ≡ refused n p = at-walk s n p (of-volume s v) a in rw e (at-header v (walk-refused s v n p .0 a))
+walk-given s v (fails n p a) =
+    let e : check s ≡ broken n p = at-walk s n p (of-volume s v) a in rw e (at-header v (walk-refused s v n p .0 a))
 
 -- 21 to 25: the first of them that holds
 given-by : (s : List ℕ) {n p : ℕ} → Refused s n p → Given s (check s)
@@ -278,16 +264,29 @@ given s =
     (λ d.
     ⊎-elim (λ e. given-by s (at25 a b c d e))
     (λ e. walk-given s (record { not21 = a; not22 = b; not23 = c; not24 = d; not25 = e }) (out (walk s)))
-    (yes-no (name25 s)))
-    (yes-no (sum24 s)))
-    (yes-no (size23 s)))
-    (yes-no (magic22 s)))
-    (yes-no (short21 s))
+    (yes-no (badVolumeName s)))
+    (yes-no (badVolumeSum s)))
+    (yes-no (badFullSize s)))
+    (yes-no (badMagic s)))
+    (yes-no (tooShort s))
 
 given-is : (s : List ℕ) (v : Verdict) → Given s v → check s ≡ v
 given-is s accepted a = is-accepted s a
-given-is s (refused n p) r = refused-is r
+given-is s (broken n p) r = refused-is r
 
 -- The check gives a verdict exactly when the rules do.
 pub check-given : (s : List ℕ) (v : Verdict) → (check s ≡ v) ↔ Given s v
 check-given s v = (λ e. subst (Given s) e (given s), given-is s v)
+
+-- the numbers of a refusal: 21 to 25 at 0, or 26 to 29
+number-of : {s : List ℕ} {n p : ℕ} → Refused s n p → ((21 ≤ n) × (n ≤ 25) × (p ≡ 0)) ⊎ ((26 ≤ n) × (n ≤ 29))
+number-of (at21 a) = inl (omega arith, omega arith, refl)
+number-of (at22 a b) = inl (omega arith, omega arith, refl)
+number-of (at23 a b c) = inl (omega arith, omega arith, refl)
+number-of (at24 a b c d) = inl (omega arith, omega arith, refl)
+number-of (at25 a b c d e) = inl (omega arith, omega arith, refl)
+number-of {s} (at-header {n = n} {p = p} v f) = let k = fault-number s p (f .bound) (f .depth) n p (f .fails) in inr (k .0, omega (arith, k .1))
+number-of (at-link v h f) = inr (omega arith, omega arith)
+
+pub check-number : (s : List ℕ) (n p : ℕ) → check s ≡ broken n p → ((21 ≤ n) × (n ≤ 25) × (p ≡ 0)) ⊎ ((26 ≤ n) × (n ≤ 29))
+check-number s n p e = number-of (check-given s (broken n p) .0 e)

@@ -8,9 +8,8 @@ use native.Mathlib.Omega.{arith}
 use native.Mathlib.Numerals.{sub-one}
 use borrow.Author.Tests.{eq-eqb, ne-eqb}
 use Rattle.romfs_spec.specs.Layout.{next, info, own, hasList}
-use Rattle.romfs_spec.specs.Rules.{Verdict, accepted, refused}
-use Rattle.romfs_spec.specs.Reached.{Sound}
-use Rattle.romfs_spec.specs.Check.{andThen, visitList, visitEntry}
+use Rattle.romfs_spec.specs.Check.{Verdict, accepted, broken, andThen, visitList, visitEntry}
+use Rattle.romfs_proofs.specs.Tested.{Sound}
 use Rattle.romfs_proofs.specs.Facts.{room, next-from, next-to, own-to, first-from, first-to, depth-to}
 
 -- ---- headers that sound ones lead to, from p on
@@ -48,16 +47,16 @@ lies {s} h (inside {q = q} {b = b} {d = d} f o t) =
     let l = lies h f in omega (arith, room s q, first-from s q b d o t, first-to s q b d o t, own-to s q b d o)
 
 -- ---- verdicts
-pub not-both : {n p : ℕ} {v : Verdict} → v ≡ accepted → v ≡ refused n p → ⊥
+pub not-both : {n p : ℕ} {v : Verdict} → v ≡ accepted → v ≡ broken n p → ⊥
 not-both e f = let z : _≡_ {A = ℕ} 0 1 = cc in omega arith
 
 pub then-accepted : (a b : Verdict) → andThen a b ≡ accepted → (a ≡ accepted) × (b ≡ accepted)
 then-accepted accepted b e = (refl, e)
-then-accepted (refused n p) b e = absurd (not-both e refl)
+then-accepted (broken n p) b e = absurd (not-both e refl)
 
 -- ---- one law for each way through a list and through an entry
 module _ (s : List ℕ) (entry : ℕ → Verdict) where
-  pub list-refused : (f p n q : ℕ) → 0 < f → entry p ≡ refused n q → visitList s entry f p ≡ refused n q
+  pub list-refused : (f p n q : ℕ) → 0 < f → entry p ≡ broken n q → visitList s entry f p ≡ broken n q
   unfolding visitList
   list-refused zero p n q h e = absurd (omega arith)
   list-refused (suc f) p n q h e = rw e
@@ -85,7 +84,7 @@ module _ (s : List ℕ) (test : ℕ → ℕ → ℕ → Verdict) (bound p : ℕ)
   abbrev pub listOf : ℕ → Verdict
   listOf left = visitList s (visitEntry s test left (own s bound p)) (own s bound p - info s p) (info s p)
 
-  pub entry-refused : (left depth n q : ℕ) → left + depth ≡ 8 → test bound depth p ≡ refused n q → visitEntry s test left bound p ≡ refused n q
+  pub entry-refused : (left depth n q : ℕ) → left + depth ≡ 8 → test bound depth p ≡ broken n q → visitEntry s test left bound p ≡ broken n q
   unfolding visitEntry
   entry-refused zero depth n q l e = let d : depth ≡ 8 = omega arith in rw d at e
   entry-refused (suc left) depth n q l e = let d : depth ≡ 7 - left = omega arith in let f = rw d at e in rw f

@@ -10,9 +10,8 @@ use lib.ListN.{length}
 use lib.Dec.{ltb, eqb}
 use Rattle.list_laws.specs.Test.{or-no-l, or-no-r}
 use Rattle.romfs_spec.specs.Layout.{fullSize, firstRoot, afterName, nameLength, nameEnds}
-use Rattle.romfs_spec.specs.Rules.{Verdict, accepted, refused, short21, magic22, size23, sum24, name25, fault}
-use Rattle.romfs_spec.specs.Reached.{Reached, root, along, inside, Sound}
-use Rattle.romfs_spec.specs.Check.{visitList, visitEntry, visitAll, walk, volume}
+use Rattle.romfs_spec.specs.Check.{Verdict, accepted, broken, tooShort, badMagic, badFullSize, badVolumeSum, badVolumeName, fault, visitList, visitEntry, visitAll, walk, volume}
+use Rattle.romfs_proofs.specs.Tested.{Reached, root, along, inside, Sound}
 use Rattle.romfs_proofs.specs.Facts.{has-list, list-descends, list-first, fault-sound, room, ends}
 use Rattle.romfs_proofs.specs.Visit as visit
 use Rattle.romfs_proofs.specs.Visit.{From, lies, all, not-both}
@@ -20,24 +19,24 @@ use Rattle.romfs_proofs.specs.Visit.{From, lies, all, not-both}
 -- ---- 21 to 25
 -- none of 21 to 25 holds
 pub record Volume (s : List ℕ) : Type 0 where
-  pub not21 : short21 s ≡ false
-  pub not22 : magic22 s ≡ false
-  pub not23 : size23 s ≡ false
-  pub not24 : sum24 s ≡ false
-  pub not25 : name25 s ≡ false
+  pub not21 : tooShort s ≡ false
+  pub not22 : badMagic s ≡ false
+  pub not23 : badFullSize s ≡ false
+  pub not24 : badVolumeSum s ≡ false
+  pub not25 : badVolumeName s ≡ false
 
-cond-accepted : (b : Bool) (n q : ℕ) (v : Verdict) → cond b (refused n q) v ≡ accepted → (b ≡ false) × (v ≡ accepted)
+cond-accepted : (b : Bool) (n q : ℕ) (v : Verdict) → cond b (broken n q) v ≡ accepted → (b ≡ false) × (v ≡ accepted)
 cond-accepted true n q v e = absurd (not-both e refl)
 cond-accepted false n q v e = (refl, e)
 
 pub volume-of : (s : List ℕ) → volume s ≡ accepted → Volume s
 unfolding volume
 volume-of s e =
-    let a = cond-accepted (short21 s) 21 0 _ e in
-    let b = cond-accepted (magic22 s) 22 0 _ (a .1) in
-    let c = cond-accepted (size23 s) 23 0 _ (b .1) in
-    let d = cond-accepted (sum24 s) 24 0 _ (c .1) in
-    let f = cond-accepted (name25 s) 25 0 _ (d .1) in
+    let a = cond-accepted (tooShort s) 21 0 _ e in
+    let b = cond-accepted (badMagic s) 22 0 _ (a .1) in
+    let c = cond-accepted (badFullSize s) 23 0 _ (b .1) in
+    let d = cond-accepted (badVolumeSum s) 24 0 _ (c .1) in
+    let f = cond-accepted (badVolumeName s) 25 0 _ (d .1) in
     record { not21 = a .0; not22 = b .0; not23 = c .0; not24 = d .0; not25 = f .0 }
 
 pub of-volume : (s : List ℕ) → Volume s → volume s ≡ accepted
@@ -46,11 +45,11 @@ of-volume s v = rw (v .not21, v .not22, v .not23, v .not24, v .not25)
 
 module _ (s : List ℕ) (v : Volume s) where
   pub full-from : 32 ≤ fullSize s
-  unfolding size23
+  unfolding badFullSize
   full-from = ltb-false (fullSize s) 32 (or-no-l (ltb (fullSize s) 32) (ltb (length s) (fullSize s) || not (eqb (fullSize s % 16) 0)) (v .not23))
 
   rest23 : (ltb (length s) (fullSize s) || not (eqb (fullSize s % 16) 0)) ≡ false
-  unfolding size23
+  unfolding badFullSize
   rest23 = or-no-r (ltb (fullSize s) 32) (ltb (length s) (fullSize s) || not (eqb (fullSize s % 16) 0)) (v .not23)
 
   pub full-to : fullSize s ≤ length s
@@ -62,7 +61,7 @@ module _ (s : List ℕ) (v : Volume s) where
       (not-false (eqb (fullSize s % 16) 0) (or-no-r (ltb (length s) (fullSize s)) (not (eqb (fullSize s % 16) 0)) rest23))
 
   name-in : 16 + nameLength s 16 < fullSize s
-  unfolding name25 nameEnds
+  unfolding badVolumeName nameEnds
   name-in = ltb-true (16 + nameLength s 16) (fullSize s) (not-false (nameEnds s 16) (v .not25))
 
   pub root-from : 32 ≤ firstRoot s

@@ -30,8 +30,8 @@ unfoldable pub firstRoot : List ℕ → ℕ
 firstRoot s = afterName s 16
 
 -- ---- a header at p: in its first word bits 0 to 2 are the type, value 8 is executable, the other bits are the next header's offset
-unfoldable pub kind : List ℕ → ℕ → ℕ
-kind s p = word s p % 8
+unfoldable pub fileType : List ℕ → ℕ → ℕ
+fileType s p = word s p % 8
 
 unfoldable pub executable : List ℕ → ℕ → ℕ
 executable s p = word s p / 8 % 2
@@ -67,7 +67,7 @@ isDots s p = sameList (name s p) (46 ∷ []) || sameList (name s p) (46 ∷ 46 �
 
 -- Directories named "." or ".." are not descended.
 unfoldable pub descends : List ℕ → ℕ → Bool
-descends s p = eqb (kind s p) 1 && not (isDots s p)
+descends s p = eqb (fileType s p) 1 && not (isDots s p)
 
 -- whether it has a list to descend to: a first header of 0 is an empty one
 unfoldable pub hasList : List ℕ → ℕ → Bool

@@ -1,5 +1,5 @@
 pub mod Layout
-pub mod Rules
-pub mod Reached
 pub mod Check
-pub mod Answers
+pub mod Requests
+pub mod Accepted
+pub mod Statements

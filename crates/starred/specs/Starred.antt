@@ -12,13 +12,12 @@ use Rattle.tfs_spec.specs.Layout.{need, blocks, block, setBlock, mapBit, setBit
 use Rattle.tfs_spec.specs.View.{inodeAt, viewN, view, free, used, inode, name, size, number, slotOf, slotWith, freeSlot, freeBlocks}
 use Rattle.tfs_spec.specs.Check.{consistent, tooShort, badMagic, badLabel, repeats, badSlot, badNumber, badInode, fileClaims, claimsTo, claims, checkView, check}
 use Rattle.tfs_facts.specs.Stores.{Fits, length-storeAll}
-use Rattle.romfs_spec.specs.Layout.{fullSize, nameLength, nameEnds, afterName, firstRoot, kind, executable, next, info, contentAt, endOf, own, isDots, descends, hasList, hasData, wordSum}
+use Rattle.romfs_spec.specs.Layout.{fullSize, nameLength, nameEnds, afterName, firstRoot, fileType, executable, next, info, contentAt, endOf, own, isDots, descends, hasList, hasData, wordSum}
 use Rattle.romfs_spec.specs.Layout as romfs
-use Rattle.romfs_spec.specs.Rules.{short21, magic22, size23, sum24, name25, overBound, badName, badSum, badInfo, badSize, badHeader, badNext, badFirst, badNesting, tooDeep, fault}
-use Rattle.romfs_spec.specs.Rules as rom
-use Rattle.romfs_spec.specs.Check.{visitList, visitEntry, visitAll, walk, leads, towards, seek, isReached, badLink, links, volume, check as romCheck}
-use Rattle.romfs_spec.specs.Answers.{granted, denied, firstOf, matchFrom, matchIn, isDirectory, found, find, Entry, entryAt, described, measured, contentLength}
-use Rattle.romfs_spec.specs.Answers as answers
+use Rattle.romfs_spec.specs.Check.{badFullSize, badVolumeSum, badVolumeName, overBound, badName, badSum, badInfo, badSize, badHeader, badNext, badFirst, badNesting, tooDeep, fault, visitList, visitEntry, visitAll, walk, leads, towards, seek, isReached, badLink, links, volume, check as romCheck}
+use Rattle.romfs_spec.specs.Check as rom
+use Rattle.romfs_spec.specs.Requests.{granted, firstOf, matchFrom, matchIn, isDirectory, findStep, find, Entry, entryAt, entryStep, contentStep, contentLength}
+use Rattle.romfs_spec.specs.Requests as requests
 use Rattle.tfs_spec.specs.Requests.{Answer, done, value, unused, file, refused, Outcome, Store, storeAll, formatStores, format, freeFrom, chosen, placeStores, createStores, createView, stored, create, counted, transferView, read, write, freeAnswer}
 
 -- the names, as bytes
@@ -43,17 +42,17 @@ ROM = words (0x2D726F6D ∷ 0x3166732D ∷ 0x40 ∷ 0x4B271D26 ∷ 0x56000000 �
 -- a verdict on a romfs image as a row
 abbrev pub romCode : rom.Verdict → List ℕ
 romCode rom.accepted = 0 ∷ []
-romCode (rom.refused num p) = 4 ∷ num ∷ p ∷ []
+romCode (rom.broken num p) = 4 ∷ num ∷ p ∷ []
 
 -- an offset or a length that a romfs request answers, as a row
-abbrev pub numberCode : answers.Answer ℕ → List ℕ
+abbrev pub numberCode : requests.Answer ℕ → List ℕ
 numberCode (granted n) = 1 ∷ n ∷ []
-numberCode (denied num p) = 4 ∷ num ∷ p ∷ []
+numberCode (requests.refused num p) = 4 ∷ num ∷ p ∷ []
 
 -- an entry that it answers, as a row: type, executable, spec.info, size, next and name length
-abbrev pub entryCode : answers.Answer Entry → List ℕ
-entryCode (granted e) = 3 ∷ e .type ∷ e .executable ∷ e .info ∷ e .size ∷ e .next ∷ e .nameLength ∷ []
-entryCode (denied num p) = 4 ∷ num ∷ p ∷ []
+abbrev pub entryCode : requests.Answer Entry → List ℕ
+entryCode (granted e) = 3 ∷ e .fileType ∷ e .executable ∷ e .info ∷ e .size ∷ e .next ∷ e .nameLength ∷ []
+entryCode (requests.refused num p) = 4 ∷ num ∷ p ∷ []
 
 -- what the definitions give: an image of 128 blocks, one of 131 and one of 130, a buffer to read into and one to write from
 unfoldable pub computed : (img a b into from : List ℕ) → List (List ℕ)
@@ -88,7 +87,7 @@ computed img a b into from =
     ∷ romCode (romCheck ROM)
     ∷ part 16 (nameLength ROM 16) ROM
     ∷ numberCode (find ROM 0 (0x61 ∷ []))
-    ∷ entryCode (answers.entry ROM 32)
+    ∷ entryCode (requests.entry ROM 32)
     ∷ numberCode (contentLength ROM 32)
     ∷ []
 
@@ -117,7 +116,7 @@ expected =
     ∷ romCode rom.accepted
     ∷ (0x56 ∷ [])
     ∷ numberCode (granted 32)
-    ∷ entryCode (granted (record { type = 2; executable = 0; info = 0; size = 0; next = 0; nameLength = 1 }))
+    ∷ entryCode (granted (record { fileType = 2; executable = 0; info = 0; size = 0; next = 0; nameLength = 1 }))
     ∷ numberCode (granted 0)
     ∷ []
 
@@ -135,7 +134,7 @@ computing = tt
 
 -- .. and those that are computed on the romfs image
 computing-rom : Unit {0}
-unfolding least word part fullSize zeroAt nameLength nameEnds afterName firstRoot kind executable next info romfs.size romfs.name contentAt endOf own isDots descends hasList hasData wordSum short21 magic22 size23 sum24 name25 overBound badName badSum badInfo badSize badHeader badNext badFirst badNesting tooDeep fault visitList visitEntry visitAll walk leads towards seek isReached badLink links volume romCheck firstOf matchFrom matchIn isDirectory found find entryAt described answers.entry measured contentLength
+unfolding least word part fullSize zeroAt nameLength nameEnds afterName firstRoot fileType executable next info romfs.size romfs.name contentAt endOf own isDots descends hasList hasData wordSum rom.tooShort rom.badMagic badFullSize badVolumeSum badVolumeName overBound badName badSum badInfo badSize badHeader badNext badFirst badNesting tooDeep fault visitList visitEntry visitAll walk leads towards seek isReached badLink links volume romCheck firstOf matchFrom matchIn isDirectory findStep find entryAt entryStep requests.entry contentStep contentLength
 computing-rom = tt
 
 -- ---- an image of n blocks, and such a volume
@@ -266,6 +265,6 @@ starred img a b into from len len-a len-b len-into len-from =
     ∷ romCode (romCheck ROM)
     ∷ part 16 (nameLength ROM 16) ROM
     ∷ numberCode (find ROM 0 (0x61 ∷ []))
-    ∷ entryCode (answers.entry ROM 32)
+    ∷ entryCode (requests.entry ROM 32)
     ∷ numberCode (contentLength ROM 32)
     ∷ []

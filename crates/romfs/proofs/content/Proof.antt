@@ -1,53 +1,45 @@
 -- The content as a part of the image: where the length's answer begins, and as long as it says.
-use mathlib.Core.Path.{_≡_, refl, sym, ap, _∙_}
+use mathlib.Core.Path.{refl, sym, ap, subst, _∙_}
 use Prim.Native.Nat.{_+_}
+use native.Mathlib.Omega.{arith}
 use denote.Ref.{now}
 use borrow.Author.Needs.{needs}
-use Rattle.romfs_spec.specs.Layout.{contentAt}
-use Rattle.romfs_spec.specs.Answers.{partOf, startOf}
-use Rattle.romfs_proofs.specs.Given.{content-in}
-use Rattle.romfs.specs.declared.ContentAnswer.{ContentAnswer}
-use Rattle.romfs.specs.Told.{toldContent}
-use Rattle.romfs.proofs.Answers as answers
+use Rattle.romfs.specs.Told.{partTold, partStart, PartFits}
+use Rattle.romfs.proofs.Laws as laws
 use Rattle.romfs.proofs.content.Statement.{statement}
 use Rattle.romfs.proofs.content.Tie as tie
 
-content-part-requires : tie.Need-content-part-requires
-content-part-requires c κs = content-in _ _ _ (sym (ap toldContent (sym (c .before .n .given .1)) ∙ c .before .before .before .content-length .ensures .0))
+part-result-end-3 : tie.Need-part-result-end-3
+part-result-end-3 c =
+    let k = subst (PartFits _) (c .before .offset .given .1) (c .before .before .before .content-part .ensures .2) in
+    omega (arith, k)
 
 returns : tie.Need-returns
 returns c =
     let image = c .before .before .before .before .before .args .image in
-    let s = now image in
-    let p = c .before .before .before .before .before .args .at in
-    let told = c .before .before .before .content-length .ensures .0 in
-    let is = sym (c .before .enum-told .given .1) in (
-      ap (λ (a : ContentAnswer). partOf s (contentAt s p) (toldContent a)) is ∙ answers.content-is s p _ told,
-      (refl, ap (λ o. o + image .ptr .1) (ap (λ (a : ContentAnswer). startOf (contentAt s p) (toldContent a)) is ∙ answers.start-is s p _ told)),
-    )
+    let at = c .before .before .before .before .before .args .at in
+    let k = c .before .before .before .content-part .ensures in
+    let e = sym (c .before .enum-told .given .1) in
+    let start = ap partStart e ∙ k .1 in
+    (laws.refused-part (now image) at _ (ap partTold e ∙ k .0), (refl, ap (λ o. o + image .ptr .1) start))
 
 returns-2 : tie.Need-returns-2
 returns-2 c =
     let image = c .before .before .before .before .before .args .image in
-    let s = now image in
-    let p = c .before .before .before .before .before .args .at in
-    let told = c .before .before .before .content-length .ensures .0 in
-    let f = c .before .enum-told2 .given .0 .0 in
-    let is = sym (c .before .enum-told2 .given .1) in (
-      answers.unsound-part s p f (contentAt s p) ∙ ap (λ (a : ContentAnswer). partOf s (contentAt s p) (toldContent a)) is ∙ answers.content-is s p _ told,
-      (refl, ap (λ o. o + image .ptr .1) (answers.unsound-start s p f (contentAt s p) ∙ ap (λ (a : ContentAnswer). startOf (contentAt s p) (toldContent a)) is ∙ answers.start-is s p _ told)),
-    )
+    let at = c .before .before .before .before .before .args .at in
+    let k = c .before .before .before .content-part .ensures in
+    let e = sym (c .before .enum-told2 .given .1) in
+    let start = ap partStart e ∙ k .1 in
+    (laws.fault-part (now image) at (c .before .enum-told2 .given .0 .0) (ap partTold e ∙ k .0), (refl, ap (λ o. o + image .ptr .1) start))
 
 returns-3 : tie.Need-returns-3
 returns-3 c =
     let image = c .before .before .before .before .before .before .args .image in
-    let s = now image in
-    let p = c .before .before .before .before .before .before .args .at in
-    let told = c .before .before .before .before .content-length .ensures .0 in
-    let is = sym (c .before .before .n .given .1) in (
-      c .content-part .ensures .0 ∙ ap (λ (a : ContentAnswer). partOf s (contentAt s p) (toldContent a)) is ∙ answers.content-is s p _ told,
-      (c .content-part .ensures .1 .0, c .content-part .ensures .1 .1 ∙ ap (λ o. o + image .ptr .1) (ap (λ (a : ContentAnswer). startOf (contentAt s p) (toldContent a)) is ∙ answers.start-is s p _ told)),
-    )
+    let at = c .before .before .before .before .before .before .args .at in
+    let k = c .before .before .before .before .content-part .ensures in
+    let e = sym (c .before .before .offset .given .1) in
+    let start = ap partStart e ∙ k .1 in
+    (laws.part-is (now image) at _ _ start (ap partTold e ∙ k .0), (refl, ap (λ o. o + image .ptr .1) start))
 
 pub content-spec : {M : Type 1} → statement M
 content-spec =
@@ -64,7 +56,11 @@ content-spec =
     (λ c. search needs)
     (λ c. search needs)
     (λ c. search needs)
-    content-part-requires
+    (λ c. search needs)
+    (λ c. search needs)
+    (λ c. search needs)
+    (λ c. search needs)
+    part-result-end-3
     returns
     returns-2
     returns-3)

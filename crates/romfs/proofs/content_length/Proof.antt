@@ -1,24 +1,32 @@
-use mathlib.Core.Path.{sym, ap, _∙_}
-use denote.Ref.{now}
-use Rattle.romfs_check.specs.Told.{told}
-use Rattle.romfs_check.specs.Facts.{fault-fits}
-use Rattle.romfs.specs.Told.{toldContent}
-use Rattle.romfs.proofs.Answers as answers
-use Rattle.romfs_spec.specs.Answers.{measured}
-use Rattle.romfs_spec.specs.Check.{check}
+use mathlib.Core.Path.{sym, ap, subst, _∙_}
 use borrow.Author.Needs.{needs}
+use Rattle.romfs.specs.Told.{partTold, PartFits}
 use Rattle.romfs.proofs.content_length.Statement.{statement}
 use Rattle.romfs.proofs.content_length.Tie as tie
 
-length-at-requires : tie.Need-length-at-requires
-length-at-requires c κs = sym (ap told (sym (c .enum-told .given .1)) ∙ c .before .before .check .ensures .0)
-
 returns : tie.Need-returns
-returns c = let a = c .before .before .before .before .before .args in (answers.length-is (now (a .image)) (a .at) _ (answers.unsound (c .before .f .given .0 .0) (check (now (a .image))) (measured (now (a .image)) (a .at)) (ap told (sym (c .before .f .given .1)) ∙ c .before .before .before .check .ensures .0)), fault-fits _ _ (c .before .f .given .1) (c .before .before .before .check .ensures .1))
+returns c = (ap partTold (sym (c .before .length .given .1)) ∙ c .before .before .before .content-part .ensures .0, tt)
 
 returns-2 : tie.Need-returns-2
-returns-2 c = let a = c .before .before .before .before .before .args in (answers.length-is (now (a .image)) (a .at) _ (answers.go-on (check (now (a .image))) (measured (now (a .image)) (a .at)) (toldContent (c .length-at .result)) (ap told (sym (c .before .enum-told .given .1)) ∙ c .before .before .before .check .ensures .0) (c .length-at .ensures .0)), c .length-at .ensures .1)
+returns-2 c =
+    let k = c .before .before .before .content-part .ensures in
+    let e = c .before .n .given .1 in
+    (ap partTold (sym e) ∙ k .0, subst (PartFits _) e (k .2))
+
+returns-3 : tie.Need-returns-3
+returns-3 c =
+    let k = c .before .before .before .content-part .ensures in
+    let e = c .before .f .given .1 in
+    (ap partTold (sym e) ∙ k .0, subst (PartFits _) e (k .2))
 
 pub content-length-spec : {M : Type 1} → statement M
 content-length-spec =
-    tie.close (tie.spec (λ c κs. search needs) (λ c. search needs) (λ c. search needs) length-at-requires returns returns-2)
+    tie.close
+    (tie.spec
+    (λ c κs. search needs)
+    (λ c. search needs)
+    (λ c. search needs)
+    (λ c. search needs)
+    returns
+    returns-2
+    returns-3)

@@ -1,44 +1,40 @@
--- The part of the image from there on.
-use mathlib.Core.Path.{refl, ap}
-use Prim.Native.Nat.{_+_}
+use mathlib.Core.Path.{sym, ap, _∙_}
+use denote.Ref.{now}
 use borrow.Author.Needs.{needs}
-use Rattle.romfs.proofs.Answers as answers
+use Rattle.romfs_spec.specs.Requests as rules
+use Rattle.romfs_spec.specs.Requests.{contentStep}
+use Rattle.romfs_check.specs.Told.{verdictTold}
+use Rattle.romfs.proofs.Laws as laws
 use Rattle.romfs.proofs.content_part.Statement.{statement}
 use Rattle.romfs.proofs.content_part.Tie as tie
 
--- src/lib.rt:212:9
-content-start-requires : tie.Need-content-start-requires
-content-start-requires c κs = search needs
+content-step-requires : tie.Need-content-step-requires
+content-step-requires c κs = sym (ap verdictTold (sym (c .enum-told .given .1)) ∙ c .before .before .check .ensures)
 
--- src/lib.rt:213:19
-add-result : tie.Need-add-result
-add-result c = search needs
-
--- src/lib.rt:213:5
-sub-result : tie.Need-sub-result
-sub-result c = search needs
-
--- src/lib.rt:213:5
-part-result-start : tie.Need-part-result-start
-part-result-start c = search needs
-
--- src/lib.rt:213:5
-part-result-end : tie.Need-part-result-end
-part-result-end c = search needs
-
--- src/lib.rt:208:1
 returns : tie.Need-returns
+unfolding rules.contentLength
 returns c =
-    let start = c .before .content-start .ensures .0 in
-    (answers.content-part _ _ _ _ start, (refl, ap (λ o. o + c .before .before .before .args .image .ptr .1) start))
+    let a = c .before .before .before .before .before .args in
+    let e = ap verdictTold (sym (c .before .enum-told .given .1)) ∙ c .before .before .before .check .ensures in
+    let k = c .content-step .ensures in
+    (laws.passed (now (a .image)) (contentStep (now (a .image)) (a .at)) _ e (k .0), laws.content-passed (now (a .image)) (a .at) _ e (k .1), k .2)
+
+returns-2 : tie.Need-returns-2
+unfolding rules.contentLength
+returns-2 c =
+    let a = c .before .before .before .before .before .before .args in
+    let e = ap verdictTold (sym (c .before .before .n .given .1)) ∙ c .before .before .before .before .check .ensures in
+    let k = laws.at-fault (now (a .image)) (contentStep (now (a .image)) (a .at)) _ _ _ (c .fault-of .ensures) e in
+    (k .0, laws.content-fault (now (a .image)) (a .at) _ _ e, k .1)
 
 pub content-part-spec : {M : Type 1} → statement M
 content-part-spec =
     tie.close
     (tie.spec
-    content-start-requires
-    add-result
-    sub-result
-    part-result-start
-    part-result-end
-    returns)
+    (λ c κs. search needs)
+    (λ c. search needs)
+    content-step-requires
+    (λ c. search needs)
+    (λ c κs. search needs)
+    returns
+    returns-2)

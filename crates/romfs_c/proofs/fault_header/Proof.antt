@@ -1,6 +1,6 @@
 -- `fault_header` meets its contract: each case of the answer told as numbers.
 use mathlib.Core.Path.{sym, ap}
-use Rattle.romfs.specs.Told.{toldUnsound}
+use Rattle.romfs.specs.Told.{faultAnswer}
 use Rattle.romfs_c.specs.Result.{header-by}
 use borrow.Author.Needs.{needs}
 use Rattle.romfs_c.proofs.fault_header.Statement.{statement}
@@ -24,11 +24,11 @@ no-header-requires-2 c κs = search needs
 
 -- src/lib.rt:109:1
 returns : tie.Need-returns
-returns c = header-by (c .no-header .result) (c .no-header .ensures) (ap toldUnsound (sym (c .before .before .f .given .1)))
+returns c = header-by (c .no-header .result) (c .no-header .ensures) (ap faultAnswer (sym (c .before .before .f .given .1)))
 
 -- src/lib.rt:109:1
 returns-2 : tie.Need-returns-2
-returns-2 c = header-by (c .no-header2 .result) (c .no-header2 .ensures) (ap toldUnsound (sym (c .before .before .f2 .given .1)))
+returns-2 c = header-by (c .no-header2 .result) (c .no-header2 .ensures) (ap faultAnswer (sym (c .before .before .f2 .given .1)))
 
 pub fault-header-spec : {M : Type 1} → statement M
 fault-header-spec =

@@ -1,6 +1,6 @@
 -- `of_entry` meets its contract: each case of the answer told as numbers.
 use mathlib.Core.Path.{sym, ap}
-use Rattle.romfs.specs.Told.{toldEntry}
+use Rattle.romfs.specs.Told.{entryTold}
 use Rattle.romfs_c.specs.Result.{refusalOf, placeOf, fieldOf, header-by}
 use borrow.Author.Needs.{needs}
 use Rattle.romfs_c.proofs.of_entry.Statement.{statement}
@@ -28,24 +28,24 @@ enum-known-a-3 c = search needs
 
 -- src/lib.rt:118:1
 returns : tie.Need-returns
-returns c = header-by (c .no-header .result) (c .no-header .ensures) (ap toldEntry (sym (c .before .before .a .given .1)))
+returns c = header-by (c .no-header .result) (c .no-header .ensures) (ap entryTold (sym (c .before .before .a .given .1)))
 
 -- src/lib.rt:118:1
 returns-2 : tie.Need-returns-2
-returns-2 c = header-by (c .fault-header .result) (c .fault-header .ensures) (ap toldEntry (sym (c .before .before .a2 .given .1)))
+returns-2 c = header-by (c .fault-header .result) (c .fault-header .ensures) (ap entryTold (sym (c .before .before .a2 .given .1)))
 
 -- src/lib.rt:118:1
 returns-3 : tie.Need-returns-3
 returns-3 c =
     let e = sym (c .before .a3 .given .1) in (
-      ap (λ x. refusalOf (toldEntry x)) e,
-      ap (λ x. placeOf (toldEntry x)) e,
-      ap (λ x. fieldOf (λ y. y .type) (toldEntry x)) e,
-      ap (λ x. fieldOf (λ y. y .executable) (toldEntry x)) e,
-      ap (λ x. fieldOf (λ y. y .info) (toldEntry x)) e,
-      ap (λ x. fieldOf (λ y. y .size) (toldEntry x)) e,
-      ap (λ x. fieldOf (λ y. y .next) (toldEntry x)) e,
-      ap (λ x. fieldOf (λ y. y .nameLength) (toldEntry x)) e,
+      ap (λ x. refusalOf (entryTold x)) e,
+      ap (λ x. placeOf (entryTold x)) e,
+      ap (λ x. fieldOf (λ y. y .fileType) (entryTold x)) e,
+      ap (λ x. fieldOf (λ y. y .executable) (entryTold x)) e,
+      ap (λ x. fieldOf (λ y. y .info) (entryTold x)) e,
+      ap (λ x. fieldOf (λ y. y .size) (entryTold x)) e,
+      ap (λ x. fieldOf (λ y. y .next) (entryTold x)) e,
+      ap (λ x. fieldOf (λ y. y .nameLength) (entryTold x)) e,
     )
 
 pub of-entry-spec : {M : Type 1} → statement M

@@ -1,6 +1,6 @@
 -- `romfs_check` meets its contract: each case of the answer told as numbers.
 use mathlib.Core.Path.{ap, _∙_}
-use Rattle.romfs_spec.specs.Answers.{checked, granted}
+use Rattle.romfs_spec.specs.Requests.{checked, granted}
 use Rattle.romfs_c.specs.Result.{result-is, checked-is}
 use borrow.Author.Needs.{needs}
 use Rattle.romfs_c.proofs.romfs_check.Statement.{statement}

@@ -1,15 +1,12 @@
-use Rattle.romfs_check.specs.Facts.{sound-next, fault-fits}
 use Prim.Native.Nat.{ℕ, _+_, _-_, _<_}
 use borrow.Author.Needs.{needs}
-use mathlib.Core.Path.{sym, ap, subst, _∙_}
-use denote.Ref.{now}
+use mathlib.Core.Path.{sym, ap, _∙_}
 use native.Mathlib.Omega.{arith}
 use borrow.Fn.Kinds.{In}
 use borrow.Fn.PlainCycle.{Measures, is, falls, and}
-use Rattle.romfs_spec.specs.Rules.{fault}
-use Rattle.romfs_spec.specs.Reached.{Reached}
-use Rattle.romfs_check.specs.Told.{told}
-use Rattle.romfs_check.specs.Marks.{Marked, marked-at}
+use Rattle.romfs_check.specs.Known.{Here, testOf}
+use Rattle.romfs_check.specs.Told.{verdictTold}
+use Rattle.romfs_check.specs.Marks.{Marked}
 use Rattle.romfs_check.proofs.Laws as laws
 use Rattle.romfs_check.proofs.walk_entry.Reads as walk-entry
 use Rattle.romfs_check.proofs.walk_entry.Kinds as walk-entry-kinds
@@ -17,9 +14,8 @@ use Rattle.romfs_check.proofs.+walk_entry+walk_list.Lts-walk_entry as w
 use Rattle.romfs_check.proofs.walk_list.Reads as walk-list
 use Rattle.romfs_check.proofs.walk_list.Kinds as walk-list-kinds
 use Rattle.romfs_check.proofs.+walk_entry+walk_list.Lts-walk_list as walk-list-lts
-use Rattle.romfs_check.proofs.mark.Reads as mark-reads
 use Rattle.romfs_headers.proofs.next_of.Reads as next-of-reads
-use Rattle.romfs_headers.proofs.read_entry.Reads as read-entry-reads
+use Rattle.romfs_check.proofs.step_at.Reads as step-at-reads
 use Rattle.romfs_check.proofs.+walk_entry+walk_list.{statement}
 use Rattle.romfs_check.proofs.+walk_entry+walk_list.Tie.{close}
 
@@ -46,100 +42,84 @@ walk-list-below t =
     and 2 walk-list-kinds.ps (falls 2 walk-list-kinds.ps _<_ μ-walk-list t) walk-list.Pre
 
 abbrev E : ℕ → walk-entry-lts.Claims
-E t = (mark-reads.Asked, mark-reads.Learnt, read-entry-reads.Asked, read-entry-reads.Learnt, walk-list-below t, walk-list.Post)
+E t = (step-at-reads.Asked, step-at-reads.Learnt, walk-list-below t, walk-list.Post)
 
 abbrev L : ℕ → walk-list-lts.Claims
 L t = (walk-entry-below t, walk-entry.Post, next-of-reads.Asked, next-of-reads.Learnt)
 
-walk-entry-mark-requires : (t : ℕ) → walk-entry-lts.Need-mark-requires (E t) (walk-entry-at t) walk-entry.Post
-walk-entry-mark-requires t c κs = search needs
-
--- the header is marked
-marked : (t : ℕ) (c : walk-entry-lts.After-mark (E t) (walk-entry-at t) walk-entry.Post) → Marked (now (c .before .before .before .args .image)) (c .mark .last .1 .1 .1 .0)
-marked t c =
-    let start = c .before .before .before in
-    subst (Marked (now (start .args .image))) (sym (c .mark .ensures))
-    (marked-at _ _ (start .pre .1 .5) _ _ (record { bound = start .args .bound; depth = 8 - start .args .left; reached = start .pre .1 .4 }))
-
 walk-entry-sub-walk-list : (t : ℕ) → walk-entry-lts.Need-sub-walk-list (E t) (walk-entry-at t) walk-entry.Post
 walk-entry-sub-walk-list t c =
-    let start = c .before .before .before .before .before .before .before in
-    let k = laws.step-in _ _ _ _ (start .pre .1 .3) _ _ (laws.reads-of _ _ _ _ (c .before .first .given .1) (c .before .before .before .read-entry .ensures)) in
-    omega arith
+    let h = c .before .before .before .before .before .before .pre .1 .0 in
+    laws.some-left _ _ _ _ _ _ h _ _ (laws.meets-by _ _ _ _ _ (c .before .first .given .1) (c .before .before .before .step-at .ensures .0))
 
 walk-entry-walk-list-requires : (t : ℕ) → walk-entry-lts.Need-walk-list-requires (E t) (walk-entry-at t) walk-entry.Post
 walk-entry-walk-list-requires t c κs =
-    let start = c .before .before .before .before .before .before .before .before in
-    let r = laws.reads-of _ _ _ _ (c .before .before .first .given .1) (c .before .before .before .before .read-entry .ensures) in
-    let k = laws.step-in _ _ _ _ (start .pre .1 .3) _ _ r in
-    (search needs, (search needs, search needs, search needs, search needs, laws.step-reached _ _ _ _ (start .pre .1 .3) _ _ r (start .pre .1 .4), marked t (c .before .before .before .before .before)))
+    let h = c .before .before .before .before .before .before .before .pre .1 .0 in
+    let r = laws.meets-by _ _ _ _ _ (c .before .before .first .given .1) (c .before .before .before .before .step-at .ensures .0) in
+    let k = laws.some-left _ _ _ _ _ _ h _ _ r in
+    (search needs, (laws.step-below _ _ _ _ _ _ h _ _ r, c .before .before .before .before .step-at .ensures .1))
 
 walk-entry-returns : (t : ℕ) → walk-entry-lts.Need-returns (E t) (walk-entry-at t) walk-entry.Post
 walk-entry-returns t c =
-    let start = c .before .before .before .before .before .before .before in
-    let r = laws.reads-of _ _ _ _ (c .before .n .given .1) (c .before .before .before .read-entry .ensures) in
-    (laws.step-broken _ _ _ _ (start .pre .1 .3) _ r, omega (arith, laws.step-number _ _ _ _ _ r), marked t (c .before .before .before .before))
+    let y = c .before .before .before .step-at .ensures in
+    (laws.step-broken _ _ _ _ _ _ (c .before .before .before .before .before .before .pre .1 .0) _ (laws.meets-by _ _ _ _ _ (c .before .n .given .1) (y .0)), y .1)
 
 walk-entry-returns-2 : (t : ℕ) → walk-entry-lts.Need-returns-2 (E t) (walk-entry-at t) walk-entry.Post
 walk-entry-returns-2 t c =
-    let start = c .before .before .before .before .before .before in
-    (laws.step-leaf _ _ _ _ (start .pre .1 .3) (laws.reads-of _ _ _ _ (c .enum-told .given .1) (c .before .before .read-entry .ensures)), tt, marked t (c .before .before .before))
+    let y = c .before .before .step-at .ensures in
+    (laws.step-leaf _ _ _ _ _ _ (c .before .before .before .before .before .pre .1 .0) (laws.meets-by _ _ _ _ _ (c .enum-told .given .1) (y .0)), y .1)
 
 walk-entry-returns-3 : (t : ℕ) → walk-entry-lts.Need-returns-3 (E t) (walk-entry-at t) walk-entry.Post
 walk-entry-returns-3 t c =
-    let start = c .before .before .before .before .before .before .before .before .before in
-    let r = laws.reads-of _ _ _ _ (c .before .before .before .first .given .1) (c .before .before .before .before .before .read-entry .ensures) in
-    (c .walk-list .ensures .0 ∙ laws.step-list _ _ _ _ (start .pre .1 .3) _ _ r, c .walk-list .ensures .1, c .walk-list .ensures .2)
+    let h = c .before .before .before .before .before .before .before .before .pre .1 .0 in
+    let r = laws.meets-by _ _ _ _ _ (c .before .before .before .first .given .1) (c .before .before .before .before .before .step-at .ensures .0) in
+    (c .walk-list .ensures .0 ∙ laws.step-list _ _ _ _ _ _ h _ _ r, c .walk-list .ensures .1)
 
 abbrev walk-list-Inv-loop : walk-list-lts.InvT-loop
-walk-list-Inv-loop image full at bound left marks₀ p₀ marks p = (p < bound) × laws.Rest image (fault image) left bound at p × Reached image p bound (8 - left) × Marked image marks
+walk-list-Inv-loop image full at bound left links marks₀ p₀ marks p = Here image full p bound left links × laws.Rest image (testOf image links) left bound at p × Marked image marks
 
 abbrev walk-list-μ-loop : walk-list-lts.MeasureT-loop
-walk-list-μ-loop image full at bound left marks₀ p₀ marks p = bound - p
+walk-list-μ-loop image full at bound left links marks₀ p₀ marks p = bound - p
 
 walk-list-returns : (t : ℕ) → walk-list-lts.Need-returns (L t) (walk-list-at t) walk-list.Post walk-list-Inv-loop walk-list-μ-loop
 walk-list-returns t c =
     let l = c .before .before .before .before .before .loop in
     let y = c .before .before .before .walk-entry .ensures in
-    (laws.rest-fault _ _ _ _ _ _ (l .inv .1) (l .inv .0) (c .before .f .given .0 .0) (ap told (sym (c .before .f .given .1)) ∙ y .0), fault-fits _ _ (c .before .f .given .1) (y .1), y .2)
+    (laws.rest-fault _ _ _ _ _ _ (l .inv .1) (l .inv .0 .before) _ _ (ap verdictTold (sym (c .before .n .given .1)) ∙ y .0), y .1)
 
 walk-list-next-of-requires : (t : ℕ) → walk-list-lts.Need-next-of-requires (L t) (walk-list-at t) walk-list.Post walk-list-Inv-loop walk-list-μ-loop
 walk-list-next-of-requires t c κs =
-    let h = laws.walked-sound _ _ _ _ (c .before .before .before .before .before .before .pre .1 .3) (ap told (sym (c .enum-told .given .1)) ∙ c .before .before .walk-entry .ensures .0) in
-    omega (arith, laws.sound-room _ _ _ _ h)
+    let h = c .before .before .before .before .loop .inv .0 in
+    let k = laws.visited-room _ _ _ _ _ _ h (ap verdictTold (sym (c .enum-told .given .1)) ∙ c .before .before .walk-entry .ensures .0) in
+    omega (arith, k, h .within, h .ready .whole .inside)
 
 walk-list-returns-2 : (t : ℕ) → walk-list-lts.Need-returns-2 (L t) (walk-list-at t) walk-list.Post walk-list-Inv-loop walk-list-μ-loop
 walk-list-returns-2 t c =
     let l = c .before .before .before .before .before .before .loop in
     let y = c .before .before .before .before .walk-entry .ensures in
-    (laws.rest-last _ _ _ _ _ _ (l .inv .1) (l .inv .0) (ap told (sym (c .before .before .enum-told .given .1)) ∙ y .0) (sym (c .before .next-of .ensures .0) ∙ c .if1 .taken), tt, y .2)
+    (laws.rest-last _ _ _ _ _ _ (l .inv .1) (l .inv .0 .before) (ap verdictTold (sym (c .before .before .enum-told .given .1)) ∙ y .0) (sym (c .before .next-of .ensures .0) ∙ c .if1 .taken), y .1)
 
 walk-list-loop-less : (t : ℕ) → walk-list-lts.Need-loop-less (L t) (walk-list-at t) walk-list.Post walk-list-Inv-loop walk-list-μ-loop
 walk-list-loop-less t c =
-    let h = laws.walked-sound _ _ _ _ (c .before .before .before .before .before .before .before .before .pre .1 .3) (ap told (sym (c .before .before .enum-told .given .1)) ∙ c .before .before .before .before .walk-entry .ensures .0) in
-    let n = sound-next _ _ _ _ _ h (c .before .next-of .ensures .0) (c .if1 .left) in
-    omega arith
+    let l = c .before .before .before .before .before .before .loop in
+    let y = c .before .before .before .before .walk-entry .ensures in
+    let n = laws.visited-next _ _ _ _ _ _ (l .inv .0) (ap verdictTold (sym (c .before .before .enum-told .given .1)) ∙ y .0) _ (c .before .next-of .ensures .0) (c .if1 .left) in
+    omega (arith, n .0, n .1 .before)
 
 walk-list-loop-again : (t : ℕ) → walk-list-lts.Need-loop-again (L t) (walk-list-at t) walk-list.Post walk-list-Inv-loop walk-list-μ-loop
 walk-list-loop-again t c =
     let l = c .before .before .before .before .before .before .loop in
     let y = c .before .before .before .before .walk-entry .ensures in
-    let e = ap told (sym (c .before .before .enum-told .given .1)) ∙ y .0 in
-    let h = laws.walked-sound _ _ _ _ (c .before .before .before .before .before .before .before .before .pre .1 .3) e in
+    let e = ap verdictTold (sym (c .before .before .enum-told .given .1)) ∙ y .0 in
     let f = c .before .next-of .ensures .0 in
-    let n = sound-next _ _ _ _ _ h f (c .if1 .left) in (
-      n .1,
-      laws.rest-next _ _ _ _ _ _ (l .inv .1) (l .inv .0) e _ f (c .if1 .left) (n .0),
-      laws.reached-next _ _ _ _ (l .inv .2) _ f (c .if1 .left),
-      y .2,
-    )
+    let n = laws.visited-next _ _ _ _ _ _ (l .inv .0) e _ f (c .if1 .left) in
+    (n .1, laws.rest-next _ _ _ _ _ _ (l .inv .1) (l .inv .0 .before) e _ f (c .if1 .left) (n .0), y .1)
 
 pub +walk-entry+walk-list-spec : {M : Type 1} → statement M
 +walk-entry+walk-list-spec =
     close μ-walk-entry μ-walk-list
     (λ t.
     walk-entry-lts.spec (E t) (walk-entry-at t) walk-entry.Post
-    (walk-entry-mark-requires t)
     (λ c κs. search needs)
     (λ c. search needs)
     (λ c. search needs)
@@ -152,7 +132,7 @@ pub +walk-entry+walk-list-spec : {M : Type 1} → statement M
     (walk-entry-returns-3 t))
     (λ t.
     walk-list-lts.spec (L t) (walk-list-at t) walk-list.Post walk-list-Inv-loop walk-list-μ-loop
-    (λ c. (search needs, laws.rest-all _ _ _ _ _, c .before .pre .1 .4, c .before .pre .1 .5))
+    (λ c. (c .before .pre .1 .0, laws.rest-all _ _ _ _ _, c .before .pre .1 .1))
     (λ c κs. search needs)
     (λ c. search needs)
     (walk-list-returns t)

@@ -1,8 +1,7 @@
-use Rattle.romfs_check.specs.Facts.{fault-fits}
 use mathlib.Core.Path.{sym, ap, _∙_}
 use denote.Ref.{now}
 use Rattle.romfs_spec.specs.Check.{andThen, volume, walk, links}
-use Rattle.romfs_check.specs.Told.{told, toldFault}
+use Rattle.romfs_check.specs.Told.{verdictTold}
 use Rattle.romfs_check.proofs.Laws as laws
 use Rattle.romfs_proofs.specs.Walked.{volume-of}
 use borrow.Author.Needs.{needs}
@@ -10,13 +9,13 @@ use Rattle.romfs_check.proofs.check.Statement.{statement}
 use Rattle.romfs_check.proofs.check.Tie as tie
 
 check-headers-requires : tie.Need-check-headers-requires
-check-headers-requires c κs = volume-of _ (sym (ap told (sym (c .enum-told .given .1)) ∙ c .before .before .check-volume .ensures .0))
+check-headers-requires c κs = volume-of _ (sym (ap verdictTold (sym (c .enum-told .given .1)) ∙ c .before .before .check-volume .ensures))
 
 returns : tie.Need-returns
-returns c = let s = now (c .before .before .before .before .before .args .image) in (laws.check-is s (toldFault (c .before .f .given .0 .0)) (laws.refused-on (c .before .f .given .0 .0) (volume s) (andThen (walk s) (links s)) (ap told (sym (c .before .f .given .1)) ∙ c .before .before .before .check-volume .ensures .0)), fault-fits _ _ (c .before .f .given .1) (c .before .before .before .check-volume .ensures .1))
+returns c = let s = now (c .before .before .before .before .before .args .image) in laws.check-is s _ (laws.broken-on _ _ (volume s) (andThen (walk s) (links s)) (ap verdictTold (sym (c .before .n .given .1)) ∙ c .before .before .before .check-volume .ensures))
 
 returns-2 : tie.Need-returns-2
-returns-2 c = let s = now (c .before .before .before .before .before .args .image) in (laws.check-is s (told (c .check-headers .result)) (laws.accepted-on (volume s) (andThen (walk s) (links s)) (told (c .check-headers .result)) (ap told (sym (c .before .enum-told .given .1)) ∙ c .before .before .before .check-volume .ensures .0) (c .check-headers .ensures .0)), c .check-headers .ensures .1)
+returns-2 c = let s = now (c .before .before .before .before .before .args .image) in laws.check-is s (verdictTold (c .check-headers .result)) (laws.accepted-on (volume s) (andThen (walk s) (links s)) (verdictTold (c .check-headers .result)) (ap verdictTold (sym (c .before .enum-told .given .1)) ∙ c .before .before .before .check-volume .ensures) (c .check-headers .ensures))
 
 pub check-spec : {M : Type 1} → statement M
 check-spec =

@@ -1,8 +1,11 @@
-use Rattle.romfs_check.specs.Facts.{length-of, whole-volume, fault-fits}
-use mathlib.Core.Path.{sym, ap, _∙_}
+use mathlib.Core.Path.{refl, sym, ap, _∙_}
 use denote.Ref.{now}
 use Rattle.romfs_spec.specs.Check.{walk, links}
-use Rattle.romfs_check.specs.Told.{told}
+use Rattle.romfs_proofs.specs.Facts.{true-false}
+use Rattle.romfs_proofs.specs.Links.{links-visit}
+use Rattle.romfs_check.specs.Known.{Walked}
+use Rattle.romfs_check.specs.Facts.{length-of, whole-volume}
+use Rattle.romfs_check.specs.Told.{verdictTold}
 use Rattle.romfs_check.specs.Marks.{marked-none}
 use Rattle.romfs_check.proofs.Laws as laws
 use borrow.Author.Needs.{needs}
@@ -12,39 +15,46 @@ use Rattle.romfs_check.proofs.check_headers.Tie as tie
 full-size-requires : tie.Need-full-size-requires
 full-size-requires c κs = length-of _ (c .before .pre)
 
-check-walk-requires : tie.Need-check-walk-requires
-check-walk-requires c κs =
+walk-all-requires : tie.Need-walk-all-requires
+walk-all-requires c κs =
     let v = c .before .before .before .pre in
     let f = c .before .full-size .ensures in
-    (whole-volume _ _ v (f .0) (f .1), v, marked-none _ 2048)
+    (record { whole = whole-volume _ _ v (f .0) (f .1); volume = v; walked = λ e. absurd (true-false e refl) }, marked-none _ 2048)
 
-check-links-requires : tie.Need-check-links-requires
-check-links-requires c κs =
-    let v = c .before .before .before .before .before .before .before .pre in
-    let f = c .before .before .before .before .before .full-size .ensures in
-    let y = c .before .before .before .check-walk .ensures in
-    (record { whole = whole-volume _ _ v (f .0) (f .1); volume = v; walked = sym (ap told (sym (c .before .enum-told .given .1)) ∙ y .0) }, y .2)
+-- the first walk accepts
+walked : (c : tie.After-enum-told) → Walked (now (c .before .before .before .before .before .before .args .image)) (c .before .before .before .before .full-size .result)
+unfolding walk
+walked c =
+    let v = c .before .before .before .before .before .before .pre in
+    let f = c .before .before .before .before .full-size .ensures in
+    record { whole = whole-volume _ _ v (f .0) (f .1); volume = v; walked = sym (ap verdictTold (sym (c .enum-told .given .1)) ∙ c .before .before .walk-all .ensures .0) }
+
+walk-all-requires-2 : tie.Need-walk-all-requires-2
+walk-all-requires-2 c κs =
+    let w = walked (c .before) in
+    (record { whole = w .whole; volume = w .volume; walked = λ e. w }, c .before .before .before .walk-all .ensures .1)
 
 returns : tie.Need-returns
+unfolding walk
 returns c =
     let s = now (c .before .before .before .before .before .before .before .args .image) in
-    let y = c .before .before .before .check-walk .ensures in
-    (laws.refused-on (c .before .f .given .0 .0) (walk s) (links s) (ap told (sym (c .before .f .given .1)) ∙ y .0), fault-fits _ _ (c .before .f .given .1) (y .1))
+    laws.broken-on _ _ (walk s) (links s) (ap verdictTold (sym (c .before .n .given .1)) ∙ c .before .before .before .walk-all .ensures .0)
 
 returns-2 : tie.Need-returns-2
+unfolding walk
 returns-2 c =
     let s = now (c .before .before .before .before .before .before .before .before .args .image) in
-    let y = c .before .before .before .before .check-walk .ensures in
-    (laws.accepted-on (walk s) (links s) (told (c .check-links .result)) (ap told (sym (c .before .before .enum-told .given .1)) ∙ y .0) (c .check-links .ensures .0), c .check-links .ensures .1)
+    let w = walked (c .before .before) in
+    laws.accepted-on (walk s) (links s) (verdictTold (c .walk-all2 .result)) (sym (w .walked)) (c .walk-all2 .ensures .0 ∙ links-visit s (w .volume) (w .walked))
 
 pub check-headers-spec : {M : Type 1} → statement M
 check-headers-spec =
     tie.close
     (tie.spec
     full-size-requires
-    check-walk-requires
+    walk-all-requires
     (λ c. search needs)
     (λ c. search needs)
-    check-links-requires
+    walk-all-requires-2
     returns
     returns-2)

@@ -3,9 +3,6 @@ use borrow.Author.Tests.{eq-eqb, ne-eqb}
 use Rattle.romfs_check.specs.Marks.{markAt}
 use Rattle.romfs_check.proofs.mark.Statement.{statement}
 use Rattle.romfs_check.proofs.mark.Tie as tie
-use Rattle.romfs_check.proofs.mark.Reads as reads
-use Rattle.romfs_check.proofs.mark.Lts as lts
-use Rattle.romfs_check.proofs.row_of.Reads as row-of-reads
 
 returns : tie.Need-returns
 unfolding markAt

@@ -7,9 +7,6 @@ use Rattle.romfs_check.specs.Marks.{marksTo, mark-test, mark-found, mark
 use Rattle.romfs_check.proofs.Laws as laws
 use Rattle.romfs_check.proofs.mark_to.Statement.{statement}
 use Rattle.romfs_check.proofs.mark_to.Tie as tie
-use Rattle.romfs_check.proofs.mark_to.Reads as reads
-use Rattle.romfs_check.proofs.mark_to.Lts as lts
-use Rattle.romfs_check.proofs.leads_to.Reads as leads-to-reads
 
 abbrev Inv-loop : tie.InvT-loop
 Inv-loop row want marks i₀ i = (i ≤ 8) × Below (marksTo marks row want) i

@@ -2,7 +2,7 @@ use borrow.Author.Needs.{needs}
 use mathlib.Core.Path.{_≡_, sym, _∙_}
 use mathlib.Core.Bool.{false}
 use denote.Ref.{now}
-use Rattle.romfs_spec.specs.Rules.{overBound, badName, badSum, badInfo, badHeader}
+use Rattle.romfs_spec.specs.Check.{overBound, badName, badSum, badInfo, badHeader}
 use Rattle.romfs_headers.proofs.Laws as laws
 use Rattle.romfs_headers.proofs.bad_header.Statement.{statement}
 use Rattle.romfs_headers.proofs.bad_header.Tie as tie

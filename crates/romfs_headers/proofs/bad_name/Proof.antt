@@ -1,6 +1,6 @@
 use borrow.Author.Tests.{eq-eqb, ne-eqb}
 use Rattle.romfs_spec.specs.Layout.{nameEnds}
-use Rattle.romfs_spec.specs.Rules.{badName}
+use Rattle.romfs_spec.specs.Check.{badName}
 use borrow.Author.Needs.{needs}
 use Rattle.romfs_headers.proofs.bad_name.Statement.{statement}
 use Rattle.romfs_headers.proofs.bad_name.Tie as tie

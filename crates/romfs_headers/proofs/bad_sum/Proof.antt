@@ -4,7 +4,7 @@ use mathlib.Core.Path.{ap, _∙_}
 use Prim.Native.Nat.{ℕ}
 use native.Mathlib.Omega.{arith}
 use Rattle.romfs_spec.specs.Layout.{contentAt, afterName, endOf, wordSum}
-use Rattle.romfs_spec.specs.Rules.{badSum}
+use Rattle.romfs_spec.specs.Check.{badSum}
 use borrow.Author.Needs.{needs}
 use Rattle.romfs_headers.proofs.bad_sum.Statement.{statement}
 use Rattle.romfs_headers.proofs.bad_sum.Tie as tie

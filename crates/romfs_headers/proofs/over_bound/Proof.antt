@@ -1,4 +1,4 @@
-use Rattle.romfs_spec.specs.Rules.{overBound}
+use Rattle.romfs_spec.specs.Check.{overBound}
 use borrow.Author.Needs.{needs}
 use Rattle.romfs_headers.proofs.over_bound.Statement.{statement}
 use Rattle.romfs_headers.proofs.over_bound.Tie as tie

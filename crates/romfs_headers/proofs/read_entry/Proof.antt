@@ -5,7 +5,7 @@ use mathlib.Core.Bool.{true, false}
 use native.Mathlib.Omega.{arith}
 use denote.Ref.{now}
 use Rattle.romfs_spec.specs.Layout.{own, hasList}
-use Rattle.romfs_spec.specs.Rules.{badHeader, badNext, badFirst}
+use Rattle.romfs_spec.specs.Check.{badHeader, badNext, badFirst}
 use Rattle.romfs_proofs.specs.Facts.{has-list, no-list, empty-list, own-test}
 use Rattle.romfs_headers.specs.Known.{step-is}
 use Rattle.romfs_headers.specs.declared.Step.the-variants as step
