@@ -2,11 +2,11 @@
 // hash of image and buffer afterwards. One line for each case that differs, then the counts. The input is that of host/reference:
 // pack tfs crates/tfs_cases/stdin --seed 1 --cases 600
 use libc::STDOUT_FILENO;
-use tfs_answers::Answer;
-use tfs_answers::Done;
-use tfs_answers::Entry;
-use tfs_check::Checked;
-use tfs_check::Fault;
+use tfs::Answer;
+use tfs::CheckAnswer;
+use tfs::Done;
+use tfs::EntryAnswer;
+use tfs::Fault;
 
 // A refusal with its place, or values.
 struct Outcome {
@@ -44,10 +44,10 @@ fn of_fault(f: Fault) -> Outcome {
     }
 }
 
-fn of_checked(c: Checked) -> Outcome {
+fn of_checked(c: CheckAnswer) -> Outcome {
     match c {
-        Checked::Consistent => granted(0, 0, 0, 0),
-        Checked::Refused(f) => of_fault(f),
+        CheckAnswer::Consistent => granted(0, 0, 0, 0),
+        CheckAnswer::Refused(f) => of_fault(f),
     }
 }
 
@@ -67,17 +67,17 @@ fn of_answer(a: Answer) -> Outcome {
     }
 }
 
-fn of_entry(e: Entry) -> Outcome {
+fn of_entry(e: EntryAnswer) -> Outcome {
     match e {
-        Entry::Free => granted(1, 0, 0, 0),
-        Entry::File(_, inode, size) => granted(3, 1, inode, size),
-        Entry::Refused(n) => refused(n, 0),
-        Entry::Inconsistent(f) => of_fault(f),
+        EntryAnswer::Free => granted(1, 0, 0, 0),
+        EntryAnswer::File(_, inode, size) => granted(3, 1, inode, size),
+        EntryAnswer::Refused(n) => refused(n, 0),
+        EntryAnswer::Inconsistent(f) => of_fault(f),
     }
 }
 
 fn listed(image: &[u8], slot: u32) -> Outcome {
-    let listing = tfs_look::list(image, slot);
+    let listing = tfs::list(image, slot);
     let entry = listing.entry;
     of_entry(entry)
 }
@@ -92,25 +92,25 @@ fn request(
     image: &mut [u8],
 ) -> Outcome {
     match kind {
-        1 => of_checked(tfs_check::check(image)),
-        2 => of_done(tfs_change::format(image, name)),
-        3 => of_answer(tfs_look::open(image, name)),
-        4 => of_answer(tfs_change::create(image, name, first)),
-        5 => of_done(tfs_change::remove(image, name)),
-        6 => of_answer(tfs_transfer::read(image, first, second, buf)),
-        7 => of_answer(tfs_transfer::write(image, first, second, buf)),
+        1 => of_checked(tfs::check(image)),
+        2 => of_done(tfs::format(image, name)),
+        3 => of_answer(tfs::open(image, name)),
+        4 => of_answer(tfs::create(image, name, first)),
+        5 => of_done(tfs::remove(image, name)),
+        6 => of_answer(tfs::read(image, first, second, buf)),
+        7 => of_answer(tfs::write(image, first, second, buf)),
         8 => listed(image, first),
-        9 => of_answer(tfs_look::free_bytes(image)),
+        9 => of_answer(tfs::free_bytes(image)),
         _ => refused(1000, 0),
     }
 }
 
-fn name_length(e: Entry) -> usize {
+fn name_length(e: EntryAnswer) -> usize {
     match e {
-        Entry::Free => 0,
-        Entry::File(length, _, _) => length as usize,
-        Entry::Refused(_) => 0,
-        Entry::Inconsistent(_) => 0,
+        EntryAnswer::Free => 0,
+        EntryAnswer::File(length, _, _) => length as usize,
+        EntryAnswer::Refused(_) => 0,
+        EntryAnswer::Inconsistent(_) => 0,
     }
 }
 
@@ -128,7 +128,7 @@ fn same_name(kind: u32, image: &[u8], slot: u32, text: &[u8]) -> bool {
     if kind != 8 {
         return text.len() == 0;
     }
-    let listing = tfs_look::list(image, slot);
+    let listing = tfs::list(image, slot);
     let entry = listing.entry;
     let name = listing.name;
     same_start(&name, name_length(entry), text)
