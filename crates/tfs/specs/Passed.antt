@@ -1,7 +1,7 @@
 -- The check, then the step: the check's fault passed on, or what the step answers.
 use mathlib.Core.Path.{_≡_, sym, ap, subst, _∙_}
 use Prim.Native.Nat.{ℕ}
-use Rattle.tfs_spec.specs.Check.{Verdict, consistent}
+use Rattle.tfs_spec.specs.Check.{Verdict}
 use Rattle.tfs_spec.specs.Requests.{checked}
 use Rattle.tfs.specs.declared.Fault.{Fault}
 use Rattle.tfs.specs.declared.CheckAnswer.{CheckAnswer}

@@ -11,7 +11,7 @@ use Rattle.tfs_spec.specs.Layout.{need, nameAllowed}
 use Rattle.tfs_spec.specs.View.{View, view, slotOf, freeSlot, freeBlocks}
 use Rattle.tfs_spec.specs.Check.{consistent, check}
 use Rattle.tfs_facts.specs.CheckMeans.{check-means, need-le}
-use Rattle.tfs_spec.specs.Requests.{Answer, value, refused, granted, storeAll, freeFrom, chosen, placeStores, createStores, createView}
+use Rattle.tfs_spec.specs.Requests.{Answer, value, granted, storeAll, freeFrom, chosen, placeStores, createStores, createView}
 use Rattle.tfs_facts.specs.Sizes.{size-512}
 use Rattle.tfs_facts.specs.Views.{view-n}
 use Rattle.tfs_facts.specs.Entries.{allowed}

@@ -1,5 +1,5 @@
 -- What a transfer by a handle comes to, from the numbers that the code has in hand.
-use mathlib.Core.Path.{_≡_, sym, ap, _∙_}
+use mathlib.Core.Path.{_≡_, sym}
 use Prim.Native.Nat.{ℕ, _+_, _-_, _*_, _≤_, _<_, min}
 use mathlib.Core.List.{List, _++_}
 use native.Mathlib.Omega.{arith}

@@ -32,7 +32,7 @@ returns-2 c =
 inode-at-requires : tie.Need-inode-at-requires
 inode-at-requires c κs =
     let start = start (c .before .before) in
-    (long (now (start .args .image)) (start .pre), c .if2 .left)
+    (long (now (start .args .image)) (start .pre), search needs)
 
 returns-3 : tie.Need-returns-3
 returns-3 c =

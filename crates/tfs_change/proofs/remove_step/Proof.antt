@@ -61,7 +61,7 @@ returns-2 c =
 inode-at-requires : tie.Need-inode-at-requires
 inode-at-requires c κs =
     let start = start (c .before) in
-    (long (now (start .args .image)) (start .pre), c .before .if2 .left)
+    (long (now (start .args .image)) (start .pre), search needs)
 
 erase-file-requires : tie.Need-erase-file-requires
 erase-file-requires c κs =

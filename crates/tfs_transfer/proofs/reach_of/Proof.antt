@@ -1,7 +1,6 @@
 -- `reach_of` meets its contract: one law for each way out; a passed check says what the calls require.
-use mathlib.Core.Path.{_≡_, sym}
+use mathlib.Core.Path.{sym}
 use native.Mathlib.Omega.{arith}
-use lib.ListN.{length}
 use denote.Ref.{now}
 use borrow.Author.Needs.{needs}
 use Rattle.tfs_steps.specs.Ready.{long}

@@ -1,8 +1,7 @@
 -- `write_step` meets its contract: by the case that `reach_of` gives.
 use mathlib.Core.Path.{refl, sym, ap, subst, _∙_}
-use Prim.Native.Nat.{_-_}
 use native.Mathlib.Omega.{arith}
-use lib.ListN.{length, take, drop}
+use lib.ListN.{length}
 use denote.Ref.{now}
 use borrow.Author.Needs.{needs}
 use Rattle.tfs_steps.specs.Told.{refuses}
