@@ -1,11 +1,11 @@
 // Runs the numbers that the rules name and that are no theorems: a size over the largest, an image one byte too short, and
 // a full directory with and without free blocks.
 use libc::STDOUT_FILENO;
-use tfs_answers::Answer;
-use tfs_answers::Done;
-use tfs_answers::Entry;
-use tfs_check::Checked;
-use tfs_check::Fault;
+use tfs::Answer;
+use tfs::CheckAnswer;
+use tfs::Done;
+use tfs::EntryAnswer;
+use tfs::Fault;
 
 // ---- lines
 
@@ -38,11 +38,11 @@ fn fault(f: Fault) {
     }
 }
 
-fn checked(what: &[u8], c: Checked) {
+fn checked(what: &[u8], c: CheckAnswer) {
     text(what);
     match c {
-        Checked::Consistent => text(b"consistent"),
-        Checked::Refused(f) => fault(f),
+        CheckAnswer::Consistent => text(b"consistent"),
+        CheckAnswer::Refused(f) => fault(f),
     }
     text(b"\n");
 }
@@ -67,13 +67,13 @@ fn answer(what: &[u8], a: Answer) {
     text(b"\n");
 }
 
-fn listed(what: &[u8], e: Entry) {
+fn listed(what: &[u8], e: EntryAnswer) {
     text(what);
     match e {
-        Entry::Free => text(b"free"),
-        Entry::File(_, inode, _) => number(inode),
-        Entry::Refused(n) => refused(n),
-        Entry::Inconsistent(f) => fault(f),
+        EntryAnswer::Free => text(b"free"),
+        EntryAnswer::File(_, inode, _) => number(inode),
+        EntryAnswer::Refused(n) => refused(n),
+        EntryAnswer::Inconsistent(f) => fault(f),
     }
     text(b"\n");
 }
@@ -82,36 +82,36 @@ fn listed(what: &[u8], e: Entry) {
 
 // The largest file is 65,024 bytes.
 fn sizes(image: &mut [u8]) {
-    done(b"format 131 blocks: ", tfs_change::format(image, b"LARGE"));
+    done(b"format 131 blocks: ", tfs::format(image, b"LARGE"));
     answer(
         b"  create 65025 bytes: ",
-        tfs_change::create(image, b"FILE", 65025),
+        tfs::create(image, b"FILE", 65025),
     );
     answer(
         b"  create 4294967295 bytes: ",
-        tfs_change::create(image, b"FILE", 4294967295),
+        tfs::create(image, b"FILE", 4294967295),
     );
-    answer(b"  free bytes: ", tfs_look::free_bytes(image));
+    answer(b"  free bytes: ", tfs::free_bytes(image));
 }
 
 // Every request on an image of 1,535 bytes: those on names, then the others.
 fn short(image: &mut [u8]) {
     text(b"1535 bytes\n");
-    done(b"  format: ", tfs_change::format(image, b"SHORT"));
-    answer(b"  open: ", tfs_look::open(image, b"FILE"));
-    answer(b"  create: ", tfs_change::create(image, b"FILE", 0));
-    done(b"  remove: ", tfs_change::remove(image, b"FILE"));
+    done(b"  format: ", tfs::format(image, b"SHORT"));
+    answer(b"  open: ", tfs::open(image, b"FILE"));
+    answer(b"  create: ", tfs::create(image, b"FILE", 0));
+    done(b"  remove: ", tfs::remove(image, b"FILE"));
 }
 
 fn short_too(image: &mut [u8]) {
-    checked(b"  check: ", tfs_check::check(image));
+    checked(b"  check: ", tfs::check(image));
     let mut buf = [0u8; 8];
-    answer(b"  read: ", tfs_transfer::read(image, 3, 0, &mut buf));
-    answer(b"  write: ", tfs_transfer::write(image, 3, 0, b"12345678"));
-    let listing = tfs_look::list(image, 0);
+    answer(b"  read: ", tfs::read(image, 3, 0, &mut buf));
+    answer(b"  write: ", tfs::write(image, 3, 0, b"12345678"));
+    let listing = tfs::list(image, 0);
     let entry = listing.entry;
     listed(b"  list: ", entry);
-    answer(b"  free bytes: ", tfs_look::free_bytes(image));
+    answer(b"  free bytes: ", tfs::free_bytes(image));
 }
 
 fn granted(a: Answer) -> bool {
@@ -129,7 +129,7 @@ fn letter(k: u32) -> u8 {
 // Creates an empty file of one letter; whether it was granted.
 fn add(image: &mut [u8], k: u32) -> bool {
     let name = [letter(k)];
-    granted(tfs_change::create(image, &name, 0))
+    granted(tfs::create(image, &name, 0))
 }
 
 // Creates empty files "A", "B" and so on, until one is refused; how many were granted.
@@ -143,26 +143,26 @@ fn fill(image: &mut [u8]) -> u32 {
 
 // A name that stands in a full directory, and a new one.
 fn two_names(image: &mut [u8]) {
-    answer(b"  create A: ", tfs_change::create(image, b"A", 0));
+    answer(b"  create A: ", tfs::create(image, b"A", 0));
     answer(
         b"  create Y, 65024 bytes: ",
-        tfs_change::create(image, b"Y", 65024),
+        tfs::create(image, b"Y", 65024),
     );
-    answer(b"  create NEW: ", tfs_change::create(image, b"NEW", 0));
+    answer(b"  create NEW: ", tfs::create(image, b"NEW", 0));
     answer(
         b"  create NEW, 65024 bytes: ",
-        tfs_change::create(image, b"NEW", 65024),
+        tfs::create(image, b"NEW", 65024),
     );
 }
 
 // A full directory.
 fn full(image: &mut [u8]) {
-    done(b": ", tfs_change::format(image, b"FULL"));
+    done(b": ", tfs::format(image, b"FULL"));
     text(b"  empty files created: ");
     number(fill(image));
     text(b"\n");
-    checked(b"  check: ", tfs_check::check(image));
-    answer(b"  free bytes: ", tfs_look::free_bytes(image));
+    checked(b"  check: ", tfs::check(image));
+    answer(b"  free bytes: ", tfs::free_bytes(image));
     two_names(image);
 }
 
@@ -177,9 +177,6 @@ fn main() {
     let mut small = [0u8; 14336];
     text(b"format 28 blocks");
     full(&mut small);
-    done(b"  remove C: ", tfs_change::remove(&mut small, b"C"));
-    answer(
-        b"  create NEW: handle ",
-        tfs_change::create(&mut small, b"NEW", 0),
-    );
+    done(b"  remove C: ", tfs::remove(&mut small, b"C"));
+    answer(b"  create NEW: handle ", tfs::create(&mut small, b"NEW", 0));
 }

@@ -1,19 +1,15 @@
 -- What a result of the C interface tells: an answer of the rules, as numbers.
 use Prim.Native.Nat.{ℕ, _≤_}
 use mathlib.Core.List.{List}
-use mathlib.Core.Path.{_≡_, refl, sym, ap, subst, _∙_}
+use mathlib.Core.Path.{_≡_, sym, ap, subst, _∙_}
 use native.Mathlib.Omega.{arith}
 use lib.ListN.{length, take}
 use lib.Seq.{length-take-le}
-use Rattle.tfs_spec.specs.Requests.{Answer, done, value, unused, file, refused, checked}
-use Rattle.tfs_check.specs.declared.Fault.{Fault}
-use Rattle.tfs_check.specs.declared.Fault.the-variants.{Header, Slot, Block}
-use Rattle.tfs_check.specs.declared.Checked.{Checked}
-use Rattle.tfs_check.specs.declared.Checked.the-variants.{Consistent, Refused}
-use Rattle.tfs_check.specs.Told.{checkedTold}
-use Rattle.tfs_answers.specs.declared.Entry.{Entry}
-use Rattle.tfs_answers.specs.declared.Entry.the-variants as entry
-use Rattle.tfs_answers.specs.Told.{faultAnswer, entryTold, listedName, EntryFits}
+use Rattle.tfs_spec.specs.Requests.{Answer, done, value, unused, file, refused}
+use Rattle.tfs.specs.declared.Fault.{Fault}
+use Rattle.tfs.specs.declared.EntryAnswer.{EntryAnswer}
+use Rattle.tfs.specs.declared.EntryAnswer.the-variants as entry
+use Rattle.tfs.specs.Told.{faultAnswer, entryTold, listedName, EntryFits}
 use Rattle.tfs_c.specs.declared.TfsResult.{TfsResult}
 use Rattle.tfs_c.specs.declared.TfsSlot.{TfsSlot}
 
@@ -48,11 +44,6 @@ resultOf a = record { refusal = refusalOf a; place = placeOf a; value = valueOf 
 abbrev pub Tells : TfsResult → Answer → Type 0
 Tells r a = (r .refusal ≡ refusalOf a) × (r .place ≡ placeOf a) × (r .value ≡ valueOf a)
 
--- what the check's own answer says
-abbrev pub checkedAnswer : Checked → Answer
-checkedAnswer Consistent = done
-checkedAnswer (Refused f) = faultAnswer f
-
 -- ---- list: 1 for a file, its inode number, its size and the length of its name; all 0 for a free slot or a refusal
 abbrev pub usedOf : Answer → ℕ
 usedOf done = 0
@@ -85,17 +76,17 @@ nameLengthOf (refused num p) = 0
 abbrev pub TellsEntry : TfsSlot → Answer → Type 0
 TellsEntry r a =
     (r .refusal ≡ refusalOf a) × (r .place ≡ placeOf a) × (r .used ≡ usedOf a)
-    × (r .inode ≡ inodeOf a) × (r .size ≡ sizeOf a) × (r .namelen ≡ nameLengthOf a)
+    × (r .inode ≡ inodeOf a) × (r .size ≡ sizeOf a) × (r .«name_length» ≡ nameLengthOf a)
 
 -- .. with no file in it
 abbrev pub TellsNone : TfsSlot → ℕ → ℕ → Type 0
 TellsNone r num p =
-    (r .refusal ≡ num) × (r .place ≡ p) × (r .used ≡ 0) × (r .inode ≡ 0) × (r .size ≡ 0) × (r .namelen ≡ 0)
+    (r .refusal ≡ num) × (r .place ≡ p) × (r .used ≡ 0) × (r .inode ≡ 0) × (r .size ≡ 0) × (r .«name_length» ≡ 0)
 
 -- .. with a file of this name's length, inode number and size
 abbrev pub TellsFile : TfsSlot → ℕ → ℕ → ℕ → Type 0
 TellsFile r len i z =
-    (r .refusal ≡ 0) × (r .place ≡ 0) × (r .used ≡ 1) × (r .inode ≡ i) × (r .size ≡ z) × (r .namelen ≡ len)
+    (r .refusal ≡ 0) × (r .place ≡ 0) × (r .used ≡ 1) × (r .inode ≡ i) × (r .size ≡ z) × (r .«name_length» ≡ len)
 
 -- the slot of an answer; the name is padded with zeros, and all zeros where there is no file
 abbrev pub slotOf : Answer → TfsSlot
@@ -105,7 +96,7 @@ slotOf a = record {
   used = usedOf a;
   inode = inodeOf a;
   size = sizeOf a;
-  namelen = nameLengthOf a;
+  «name_length» = nameLengthOf a;
   name = listedName a;
 }
 
@@ -116,16 +107,10 @@ result-is r {a} t e = let whole : r ≡ resultOf a = λ i. record { refusal = t 
 pub slot-is : (r : TfsSlot) {a b : Answer} → TellsEntry r a → a ≡ b → r .name ≡ listedName b → r ≡ slotOf b
 slot-is r t e n =
     let u = subst (λ x. TellsEntry r x) e t in
-    λ i. record { refusal = u .0 i; place = u .1 i; used = u .2 i; inode = u .3 i; size = u .4 i; namelen = u .5 i; name = n i }
-
-pub checked-is : (c : Checked) → checkedAnswer c ≡ checked (checkedTold c) refused done
-checked-is Consistent = refl
-checked-is (Refused (Header num)) = refl
-checked-is (Refused (Slot num s)) = refl
-checked-is (Refused (Block num b)) = refl
+    λ i. record { refusal = u .0 i; place = u .1 i; used = u .2 i; inode = u .3 i; size = u .4 i; «name_length» = u .5 i; name = n i }
 
 -- ---- each case of list's answer
-module _ (r : TfsSlot) (e : Entry) (nm : List ℕ) where
+module _ (r : TfsSlot) (e : EntryAnswer) (nm : List ℕ) where
   pub told-free : TellsNone r 0 0 → e ≡ entry.Free → TellsEntry r (entryTold e nm)
   told-free t h = subst (λ x. TellsEntry r (entryTold x nm)) (sym h) t
 
@@ -133,12 +118,7 @@ module _ (r : TfsSlot) (e : Entry) (nm : List ℕ) where
   told-refused num t h = subst (λ x. TellsEntry r (entryTold x nm)) (sym h) t
 
   pub told-fault : (f : Fault) (q : TfsResult) → Tells q (faultAnswer f) → TellsNone r (q .refusal) (q .place) → e ≡ entry.Inconsistent f → TellsEntry r (entryTold e nm)
-  told-fault f q b t h = subst (λ x. TellsEntry r (entryTold x nm)) (sym h) (as-fault f b)
-    where
-      as-fault : (g : Fault) → Tells q (faultAnswer g) → TellsEntry r (faultAnswer g)
-      as-fault (Header num) (bn, bp, bv) = (t .0 ∙ bn, t .1 ∙ bp, t .2, t .3, t .4, t .5)
-      as-fault (Slot num s) (bn, bp, bv) = (t .0 ∙ bn, t .1 ∙ bp, t .2, t .3, t .4, t .5)
-      as-fault (Block num b) (bn, bp, bv) = (t .0 ∙ bn, t .1 ∙ bp, t .2, t .3, t .4, t .5)
+  told-fault f q b t h = subst (λ x. TellsEntry r (entryTold x nm)) (sym h) (t .0 ∙ b .0, t .1 ∙ b .1, t .2, t .3, t .4, t .5)
 
   pub told-file : (len i z : ℕ) → length nm ≡ 16 → EntryFits e → TellsFile r len i z → e ≡ entry.File len i z → TellsEntry r (entryTold e nm)
   told-file len i z l fits t h =

@@ -1,13 +1,13 @@
 // The TFS requests for C. The header is tfs.h; a slice passes as a pointer and then a length.
 ghost use mathlib.Core.Path.{_≡_};
 ghost use Rattle.tfs_spec.specs.Requests as rules;
-ghost use Rattle.tfs_answers.specs.Told.{faultAnswer, answerTold, doneTold, entryTold, EntryFits};
-ghost use Rattle.tfs_c.specs.Result.{checkedAnswer, resultOf, slotOf, Tells, TellsEntry, TellsFile, TellsNone};
-use tfs_answers::Answer;
-use tfs_answers::Done;
-use tfs_answers::Entry;
-use tfs_check::Checked;
-use tfs_check::Fault;
+ghost use Rattle.tfs.specs.Told.{faultAnswer, checkTold, answerTold, doneTold, entryTold, EntryFits};
+ghost use Rattle.tfs_c.specs.Result.{resultOf, slotOf, Tells, TellsEntry, TellsFile, TellsNone};
+use tfs::Answer;
+use tfs::CheckAnswer;
+use tfs::Done;
+use tfs::EntryAnswer;
+use tfs::Fault;
 
 // The refusal's number, 0 for granted; its place; the value granted.
 #[repr(C)]
@@ -17,7 +17,7 @@ pub struct TfsResult {
     pub value: u32,
 }
 
-// What list gives of a slot: the refusal and its place; 1 for a file; its inode number, size and name. The header calls namelen name_length.
+// What list gives of a slot: the refusal and its place; 1 for a file; its inode number, size and name.
 #[repr(C)]
 pub struct TfsSlot {
     pub refusal: u32,
@@ -25,7 +25,7 @@ pub struct TfsSlot {
     pub used: u32,
     pub inode: u32,
     pub size: u32,
-    pub namelen: u32,
+    pub name_length: u32,
     pub name: [u8; 16],
 }
 
@@ -87,16 +87,16 @@ fn of_done(d: Done) -> TfsResult
     }
 }
 
-fn of_checked(c: Checked) -> TfsResult
-    ensures { λ r. ⌜ Tells r (checkedAnswer c) ⌝ }
+fn of_check(c: CheckAnswer) -> TfsResult
+    ensures { λ r. ⌜ Tells r (rules.checked (checkTold c) rules.refused rules.done) ⌝ }
 {
     match c {
-        Checked::Consistent => TfsResult {
+        CheckAnswer::Consistent => TfsResult {
             refusal: 0,
             place: 0,
             value: 0,
         },
-        Checked::Refused(f) => of_fault(f),
+        CheckAnswer::Refused(f) => of_fault(f),
     }
 }
 
@@ -105,7 +105,7 @@ fn of_checked(c: Checked) -> TfsResult
 pub extern "C" fn tfs_check(image: &[u8]) -> TfsResult
     ensures { λ r. ⌜ r ≡ resultOf (rules.checkAnswer 512 (now (image .entry))) ⌝ }
 {
-    of_checked(tfs_check::check(image))
+    of_check(tfs::check(image))
 }
 
 // An empty volume with this label, whatever the image held.
@@ -113,7 +113,7 @@ pub extern "C" fn tfs_check(image: &[u8]) -> TfsResult
 pub extern "C" fn tfs_format(image: &mut [u8], label: &[u8]) -> TfsResult
     ensures { λ r. ⌜ (r ≡ resultOf (rules.format 512 (now (image .entry)) (now (label .entry)) .answer)) × (now (image .exit) ≡ rules.format 512 (now (image .entry)) (now (label .entry)) .image) ⌝ }
 {
-    of_done(tfs_change::format(image, label))
+    of_done(tfs::format(image, label))
 }
 
 // A file of this name and size, all zeros; the value is its handle.
@@ -121,7 +121,7 @@ pub extern "C" fn tfs_format(image: &mut [u8], label: &[u8]) -> TfsResult
 pub extern "C" fn tfs_create(image: &mut [u8], name: &[u8], size: u32) -> TfsResult
     ensures { λ r. ⌜ (r ≡ resultOf (rules.create 512 (now (image .entry)) (now (name .entry)) size .answer)) × (now (image .exit) ≡ rules.create 512 (now (image .entry)) (now (name .entry)) size .image) ⌝ }
 {
-    of_answer(tfs_change::create(image, name, size))
+    of_answer(tfs::create(image, name, size))
 }
 
 // Removes the file of this name.
@@ -129,7 +129,7 @@ pub extern "C" fn tfs_create(image: &mut [u8], name: &[u8], size: u32) -> TfsRes
 pub extern "C" fn tfs_remove(image: &mut [u8], name: &[u8]) -> TfsResult
     ensures { λ r. ⌜ (r ≡ resultOf (rules.remove 512 (now (image .entry)) (now (name .entry)) .answer)) × (now (image .exit) ≡ rules.remove 512 (now (image .entry)) (now (name .entry)) .image) ⌝ }
 {
-    of_done(tfs_change::remove(image, name))
+    of_done(tfs::remove(image, name))
 }
 
 // The value is the handle of the file with this name.
@@ -137,7 +137,7 @@ pub extern "C" fn tfs_remove(image: &mut [u8], name: &[u8]) -> TfsResult
 pub extern "C" fn tfs_open(image: &[u8], name: &[u8]) -> TfsResult
     ensures { λ r. ⌜ r ≡ resultOf (rules.openAnswer 512 (now (image .entry)) (now (name .entry))) ⌝ }
 {
-    of_answer(tfs_look::open(image, name))
+    of_answer(tfs::open(image, name))
 }
 
 // Reads from the file's offset on; the value is the count, the rest of the buffer stays.
@@ -145,7 +145,7 @@ pub extern "C" fn tfs_open(image: &[u8], name: &[u8]) -> TfsResult
 pub extern "C" fn tfs_read(image: &[u8], handle: u32, offset: u32, buf: &mut [u8]) -> TfsResult
     ensures { λ r. ⌜ (r ≡ resultOf (rules.read 512 (now (image .entry)) handle offset (now (buf .entry)) .answer)) × (now (buf .exit) ≡ rules.read 512 (now (image .entry)) handle offset (now (buf .entry)) .buffer) ⌝ }
 {
-    of_answer(tfs_transfer::read(image, handle, offset, buf))
+    of_answer(tfs::read(image, handle, offset, buf))
 }
 
 // Writes into the file from the offset on, as far as it reaches; the value is the count.
@@ -153,7 +153,7 @@ pub extern "C" fn tfs_read(image: &[u8], handle: u32, offset: u32, buf: &mut [u8
 pub extern "C" fn tfs_write(image: &mut [u8], handle: u32, offset: u32, buf: &[u8]) -> TfsResult
     ensures { λ r. ⌜ (r ≡ resultOf (rules.write 512 (now (image .entry)) handle offset (now (buf .entry)) .answer)) × (now (image .exit) ≡ rules.write 512 (now (image .entry)) handle offset (now (buf .entry)) .image) ⌝ }
 {
-    of_answer(tfs_transfer::write(image, handle, offset, buf))
+    of_answer(tfs::write(image, handle, offset, buf))
 }
 
 // The value is 512 times the free blocks.
@@ -161,7 +161,7 @@ pub extern "C" fn tfs_write(image: &mut [u8], handle: u32, offset: u32, buf: &[u
 pub extern "C" fn tfs_free_bytes(image: &[u8]) -> TfsResult
     ensures { λ r. ⌜ r ≡ resultOf (rules.freeAnswer 512 (now (image .entry))) ⌝ }
 {
-    of_answer(tfs_look::free_bytes(image))
+    of_answer(tfs::free_bytes(image))
 }
 
 // ---- list
@@ -176,7 +176,7 @@ fn of_none(refusal: u32, place: u32, name: [u8; 16]) -> TfsSlot
         used: 0,
         inode: 0,
         size: 0,
-        namelen: 0,
+        name_length: 0,
         name: name,
     }
 }
@@ -191,23 +191,23 @@ fn of_file(len: u32, inode: u32, size: u32, name: [u8; 16]) -> TfsSlot
         used: 1,
         inode: inode,
         size: size,
-        namelen: len,
+        name_length: len,
         name: name,
     }
 }
 
-fn of_entry(e: Entry, name: [u8; 16]) -> TfsSlot
+fn of_entry(e: EntryAnswer, name: [u8; 16]) -> TfsSlot
     requires { ⌜ EntryFits e ⌝ }
     ensures { λ r. ⌜ TellsEntry r (entryTold e name) × (r .name ≡ name) ⌝ }
 {
     match e {
-        Entry::Free => of_none(0, 0, name),
-        Entry::Refused(n) => of_none(n, 0, name),
-        Entry::Inconsistent(f) => {
+        EntryAnswer::Free => of_none(0, 0, name),
+        EntryAnswer::Refused(n) => of_none(n, 0, name),
+        EntryAnswer::Inconsistent(f) => {
             let r = of_fault(f);
             of_none(r.refusal, r.place, name)
         }
-        Entry::File(len, inode, size) => of_file(len, inode, size, name),
+        EntryAnswer::File(len, inode, size) => of_file(len, inode, size, name),
     }
 }
 
@@ -216,7 +216,7 @@ fn of_entry(e: Entry, name: [u8; 16]) -> TfsSlot
 pub extern "C" fn tfs_list(image: &[u8], slot: u32) -> TfsSlot
     ensures { λ r. ⌜ r ≡ slotOf (rules.listAnswer 512 (now (image .entry)) slot) ⌝ }
 {
-    let l = tfs_look::list(image, slot);
+    let l = tfs::list(image, slot);
     let entry = l.entry;
     let name = l.name;
     of_entry(entry, name)

@@ -7,11 +7,11 @@ use packed::cases::done;
 use packed::cases::granted;
 use packed::cases::one;
 use packed::cases::refused;
-use tfs_answers::Answer;
-use tfs_answers::Done;
-use tfs_answers::Entry;
-use tfs_check::Checked;
-use tfs_check::Fault;
+use tfs::Answer;
+use tfs::CheckAnswer;
+use tfs::Done;
+use tfs::EntryAnswer;
+use tfs::Fault;
 
 // ---- what the requests give
 
@@ -23,10 +23,10 @@ fn of_fault(f: Fault) -> Outcome {
     }
 }
 
-fn of_checked(c: Checked) -> Outcome {
+fn of_checked(c: CheckAnswer) -> Outcome {
     match c {
-        Checked::Consistent => done(),
-        Checked::Refused(f) => of_fault(f),
+        CheckAnswer::Consistent => done(),
+        CheckAnswer::Refused(f) => of_fault(f),
     }
 }
 
@@ -46,17 +46,17 @@ fn of_answer(a: Answer) -> Outcome {
     }
 }
 
-fn of_entry(e: Entry) -> Outcome {
+fn of_entry(e: EntryAnswer) -> Outcome {
     match e {
-        Entry::Free => one(0),
-        Entry::File(_, inode, size) => granted(3, [1, inode, size, 0, 0, 0]),
-        Entry::Refused(n) => refused(n, 0),
-        Entry::Inconsistent(f) => of_fault(f),
+        EntryAnswer::Free => one(0),
+        EntryAnswer::File(_, inode, size) => granted(3, [1, inode, size, 0, 0, 0]),
+        EntryAnswer::Refused(n) => refused(n, 0),
+        EntryAnswer::Inconsistent(f) => of_fault(f),
     }
 }
 
 fn listed(image: &[u8], slot: u32) -> Outcome {
-    let listing = tfs_look::list(image, slot);
+    let listing = tfs::list(image, slot);
     let entry = listing.entry;
     of_entry(entry)
 }
@@ -67,25 +67,25 @@ fn request(given: Given, name: &[u8], buf: &mut [u8], image: &mut [u8]) -> Outco
     let second = given.second;
     let request = given.request;
     match request {
-        1 => of_checked(tfs_check::check(image)),
-        2 => of_done(tfs_change::format(image, name)),
-        3 => of_answer(tfs_look::open(image, name)),
-        4 => of_answer(tfs_change::create(image, name, first)),
-        5 => of_done(tfs_change::remove(image, name)),
-        6 => of_answer(tfs_transfer::read(image, first, second, buf)),
-        7 => of_answer(tfs_transfer::write(image, first, second, buf)),
+        1 => of_checked(tfs::check(image)),
+        2 => of_done(tfs::format(image, name)),
+        3 => of_answer(tfs::open(image, name)),
+        4 => of_answer(tfs::create(image, name, first)),
+        5 => of_done(tfs::remove(image, name)),
+        6 => of_answer(tfs::read(image, first, second, buf)),
+        7 => of_answer(tfs::write(image, first, second, buf)),
         8 => listed(image, first),
-        9 => of_answer(tfs_look::free_bytes(image)),
+        9 => of_answer(tfs::free_bytes(image)),
         _ => refused(1000, 0),
     }
 }
 
-fn name_length(e: Entry) -> usize {
+fn name_length(e: EntryAnswer) -> usize {
     match e {
-        Entry::Free => 0,
-        Entry::File(length, _, _) => length as usize,
-        Entry::Refused(_) => 0,
-        Entry::Inconsistent(_) => 0,
+        EntryAnswer::Free => 0,
+        EntryAnswer::File(length, _, _) => length as usize,
+        EntryAnswer::Refused(_) => 0,
+        EntryAnswer::Inconsistent(_) => 0,
     }
 }
 
@@ -105,7 +105,7 @@ fn compare(k: u32, given: Given, got: Outcome, image: &[u8], buf: &[u8]) -> bool
     if given.request != 8 {
         return packed::cases::comes_out(k, given.request, got, b"", image, buf);
     }
-    let listing = tfs_look::list(image, given.first);
+    let listing = tfs::list(image, given.first);
     let entry = listing.entry;
     let name = listing.name;
     packed::cases::comes_out(k, 8, got, start(&name, name_length(entry)), image, buf)

@@ -1,4 +1,4 @@
--- Each way through create on a consistent volume, on the directory and the map as parts of the image.
+-- Each way through create on a consistent volume.
 use mathlib.Core.Path.{_≡_, sym, ap, ap₂, _∙_, subst}
 use mathlib.Core.Bool.{true, false, cond}
 use Prim.Native.Nat.{ℕ, _+_, _-_, _≤_, _<_}
@@ -7,28 +7,18 @@ use native.Mathlib.Omega.{arith}
 use lib.ListN.{length, getD, take, List·getD-append}
 use borrow.Author.Tests.{lt-ltb, le-ltb}
 use Rattle.list_laws.specs.Test.{of-true, to-true}
-use Rattle.lists.specs.Lists.{part}
-use Rattle.tfs_spec.specs.Layout.{need, blocks, nameAllowed}
+use Rattle.tfs_spec.specs.Layout.{need, nameAllowed}
 use Rattle.tfs_spec.specs.View.{View, view, slotOf, freeSlot, freeBlocks}
 use Rattle.tfs_spec.specs.Check.{consistent, check}
 use Rattle.tfs_facts.specs.CheckMeans.{check-means, need-le}
-use Rattle.tfs_spec.specs.Requests.{Answer, value, refused, granted, storeAll, freeFrom, chosen, placeStores, createStores, createView}
+use Rattle.tfs_spec.specs.Requests.{Answer, value, granted, storeAll, freeFrom, chosen, placeStores, createStores, createView}
 use Rattle.tfs_facts.specs.Sizes.{size-512}
 use Rattle.tfs_facts.specs.Views.{view-n}
 use Rattle.tfs_facts.specs.Entries.{allowed}
 use Rattle.tfs_facts.specs.Chosen.{CreateGrant, Choice, choice}
-use Rattle.tfs_dir.specs.Find.{findName, findFree, free-slot}
 use Rattle.tfs_map.specs.Under.{front, front-fits}
-use Rattle.tfs_map.specs.Free.{freeBelow, free-blocks, free-length}
 use Rattle.tfs_steps.specs.Place.{Placeable, placeable-below}
-use Rattle.tfs_answers.specs.Ready.{dir-is, found-in, map-is}
-
--- what a refusal with answer a leaves: the image, and a number from 8 on
-abbrev pub Refuses : ℕ → Answer → List ℕ → List ℕ → Type 0
-Refuses num a new img = (refused num 0 ≡ a) × (img ≡ cond (granted a) new img) × (8 ≤ num)
-
-pub refuses : (num : ℕ) (a : Answer) (new img : List ℕ) → 8 ≤ num → refused num 0 ≡ a → Refuses num a new img
-refuses num a new img h e = (e, ap (λ (x : Answer). cond (granted x) new img) e, h)
+use Rattle.tfs_steps.specs.Told.{Refuses, refuses}
 
 -- tests 8 to 10 are passed
 pub record Fresh (img nm : List ℕ) (z : ℕ) : Type 0 where
@@ -54,13 +44,6 @@ module _ (img nm : List ℕ) (z : ℕ) where
   abbrev new : List ℕ
   new = storeAll 512 img (createStores 512 (view 512 img) nm z)
 
-  -- the rules' terms, as the code has them
-  free-in : freeSlot 512 v ≡ findFree (part 1024 512 img)
-  free-in = free-slot v ∙ ap findFree (dir-is img)
-
-  room-in : freeBlocks v ≡ freeBelow (part 512 512 img) (blocks 512 img)
-  room-in = free-blocks v ∙ ap₂ freeBelow (map-is img) (view-n 512 img)
-
   -- ---- the tests in order
   pub create-unallowed : nameAllowed nm ≡ false → Refuses 8 a new img
   unfolding createView
@@ -71,31 +54,28 @@ module _ (img nm : List ℕ) (z : ℕ) where
     unfolding createView
     create-large h = refuses 9 a new img (omega arith) (rw (named, lt-ltb 65024 z h))
 
-    module _ (small : z ≤ 65024) (t : ℕ) (found : t ≡ findName (part 1024 512 img) nm) where
+    module _ (small : z ≤ 65024) (t : ℕ) (found : t ≡ slotOf 512 (view 512 img) nm) where
       pub create-twice : t < 25 → Refuses 10 a new img
       unfolding createView
       create-twice h =
-          refuses 10 a new img (omega arith) (rw (named, le-ltb 65024 z small, found-in img nm, ← found, lt-ltb t 25 h))
+          refuses 10 a new img (omega arith) (rw (named, le-ltb 65024 z small, ← found, lt-ltb t 25 h))
 
       pub create-fresh : 25 ≤ t → Fresh img nm z
-      create-fresh h = record { named = named; small = small; fresh = omega (arith, found-in img nm) }
+      create-fresh h = record { named = named; small = small; fresh = omega arith }
 
-  module _ (f : Fresh img nm z) (s : ℕ) (free : s ≡ findFree (part 1024 512 img)) where
+  module _ (f : Fresh img nm z) (s : ℕ) (free : s ≡ freeSlot 512 (view 512 img)) where
     pub create-full : 25 ≤ s → Refuses 11 a new img
     unfolding createView
     create-full h =
         refuses 11 a new img (omega arith)
-        (rw (f .named, le-ltb 65024 z (f .small), le-ltb (slotOf 512 v nm) 25 (f .fresh), free-in, ← free, le-ltb s 25 h))
+        (rw (f .named, le-ltb 65024 z (f .small), le-ltb (slotOf 512 v nm) 25 (f .fresh), ← free, le-ltb s 25 h))
 
-    module _ (slot : s < 25) (c n w : ℕ) (at-n : n ≡ blocks 512 img) (counted : c ≡ freeBelow (part 512 512 img) n) (want : w ≡ need 512 z) where
-      room : freeBlocks v ≡ c
-      room = room-in ∙ ap (freeBelow (part 512 512 img)) (sym at-n) ∙ sym counted
-
+    module _ (slot : s < 25) (c w : ℕ) (counted : c ≡ freeBlocks (view 512 img)) (want : w ≡ need 512 z) where
       pub create-crowded : c < 1 + w → Refuses 12 a new img
       unfolding createView
       create-crowded h =
           refuses 12 a new img (omega arith)
-          (rw (f .named, le-ltb 65024 z (f .small), le-ltb (slotOf 512 v nm) 25 (f .fresh), free-in, ← free, lt-ltb s 25 slot, room, ← want, lt-ltb c (1 + w) h))
+          (rw (f .named, le-ltb 65024 z (f .small), le-ltb (slotOf 512 v nm) 25 (f .fresh), ← free, lt-ltb s 25 slot, ← counted, ← want, lt-ltb c (1 + w) h))
 
       pub create-grant : 1 + w ≤ c → CreateGrant 512 (view 512 img) nm z
       create-grant h =
@@ -103,8 +83,8 @@ module _ (img nm : List ℕ) (z : ℕ) where
             named = of-true (nameAllowed nm) (f .named);
             small = f .small;
             fresh = f .fresh;
-            slot = omega (arith, free-in);
-            room = omega (arith, room);
+            slot = omega arith;
+            room = omega arith;
           }
 
   -- ---- all passed
@@ -117,20 +97,18 @@ module _ (img nm : List ℕ) (z : ℕ) where
     pub name-short : length nm ≤ 15
     name-short = omega (arith, allowed nm (gr .named) .short)
 
-    module _ (n w : ℕ) (at-n : n ≡ blocks 512 img) (want : w ≡ need 512 z) where
+    module _ (w : ℕ) (want : w ≡ need 512 z) where
       pub want-few : 1 + w ≤ 128
       want-few = omega (arith, need-le 512 z 127 (omega arith) (gr .small))
 
-      pub want-free : 1 + w ≤ length (freeFrom (part 512 512 img) 0 n)
-      want-free =
-          let e : freeBelow (part 512 512 img) n ≡ freeBlocks v = ap (freeBelow (part 512 512 img)) at-n ∙ sym room-in in
-          omega (arith, free-length (part 512 512 img) n, gr .room)
+      pub want-free : 1 + w ≤ freeBlocks (view 512 img)
+      want-free = omega (arith, gr .room)
 
-      chosen-is : take (1 + w) (freeFrom (part 512 512 img) 0 n) ≡ chosen 512 v z
+      chosen-is : take (1 + w) (freeFrom (v .map) 0 (v .n)) ≡ chosen 512 v z
       unfolding chosen
-      chosen-is = rw (want, at-n, map-is, view-n)
+      chosen-is = rw want
 
-      pub create-chosen : check 512 img ≡ consistent → (list rest : List ℕ) → list ≡ take (1 + w) (freeFrom (part 512 512 img) 0 n) ++ rest → Chosen img z w list
+      pub create-chosen : check 512 img ≡ consistent → (list rest : List ℕ) → list ≡ take (1 + w) (freeFrom (view 512 img .map) 0 (view 512 img .n)) ++ rest → Chosen img z w list
       create-chosen passed list rest picked =
           let free : Choice 512 v z = choice 512 v (check-means 512 size-512 img .0 passed .sound) z (gr .room) in
           let many : length (chosen 512 v z) ≡ 1 + w = free .length-cs ∙ ap (λ (x : ℕ). 1 + x) (sym want) in
@@ -149,9 +127,8 @@ module _ (img nm : List ℕ) (z : ℕ) where
                 (p .inside .low, subst (λ (x : ℕ). getD (chosen 512 v z) i 0 < x) (view-n 512 img) (p .inside .high))));
           }
 
-    pub create-done : (s w : ℕ) (list after : List ℕ) → s ≡ findFree (part 1024 512 img) → Chosen img z w list → after ≡ storeAll 512 img (placeStores 512 (view 512 img) s nm z (take (1 + w - 0) list)) → (value (getD list 0 0) ≡ createView 512 (view 512 img) nm z) × (after ≡ cond (granted (createView 512 (view 512 img) nm z)) (storeAll 512 img (createStores 512 (view 512 img) nm z)) img)
+    pub create-done : (s w : ℕ) (list after : List ℕ) → s ≡ freeSlot 512 (view 512 img) → Chosen img z w list → after ≡ storeAll 512 img (placeStores 512 (view 512 img) s nm z (take (1 + w - 0) list)) → (value (getD list 0 0) ≡ createView 512 (view 512 img) nm z) × (after ≡ cond (granted (createView 512 (view 512 img) nm z)) (storeAll 512 img (createStores 512 (view 512 img) nm z)) img)
     unfolding createStores
     create-done s w list after free c p =
-        let slot : s ≡ freeSlot 512 v = free ∙ sym free-in in
-        let q : after ≡ new = p ∙ ap₂ (λ (x : ℕ) (l : List ℕ). storeAll 512 img (placeStores 512 v x nm z l)) slot (c .front) in
+        let q : after ≡ new = p ∙ ap₂ (λ (x : ℕ) (l : List ℕ). storeAll 512 img (placeStores 512 v x nm z l)) free (c .front) in
         (ap value (c .first) ∙ create-answer, q ∙ ap (λ (x : Answer). cond (granted x) new img) create-answer)

@@ -1,3 +1,3 @@
-pub mod Format
+pub mod Open
 pub mod Create
 pub mod Remove

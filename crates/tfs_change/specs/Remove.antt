@@ -1,4 +1,4 @@
--- Each way through remove on a consistent volume, on the directory as a part of the image.
+-- Each way through remove on a consistent volume.
 use mathlib.Core.Path.{_≡_, sym, ap, _∙_, subst}
 use mathlib.Core.Bool.{true, false, cond}
 use Prim.Native.Nat.{ℕ, _+_, _-_, _*_, _≤_, _<_}
@@ -6,27 +6,25 @@ use mathlib.Core.List.{List, _++_}
 use native.Mathlib.Omega.{arith}
 use lib.ListN.{length, take}
 use borrow.Author.Tests.{lt-ltb, le-ltb}
-use Rattle.lists.specs.Lists.{part}
-use Rattle.tfs_spec.specs.Layout.{need, block, slot, slotInode, inodeSize, nameAllowed}
+use Rattle.tfs_spec.specs.Layout.{need, block, inodeSize, nameAllowed}
 use Rattle.tfs_spec.specs.View.{View, view, inode, slotOf}
 use Rattle.tfs_spec.specs.Check.{consistent, check, fileClaims}
 use Rattle.tfs_spec.specs.Consistent.{File}
 use Rattle.tfs_spec.specs.Requests.{Answer, done, granted, storeAll, removeStores, removeView}
 use Rattle.tfs_facts.specs.Names.{slot-hit}
-use Rattle.tfs_dir.specs.Find.{findName}
 use Rattle.tfs_map.specs.Under.{Under, front, front-fits}
 use Rattle.tfs_inode.specs.Claims.{claimList, length-claims}
 use Rattle.tfs_steps.specs.Erase.{eraseStores, erase-removes}
-use Rattle.tfs_answers.specs.Ready.{dir-is, found-in, inode-small, inode-in, need-few, claims-are, claims-under}
-use Rattle.tfs_change.specs.Create.{Refuses, refuses}
+use Rattle.tfs_steps.specs.Told.{Refuses, refuses}
+use Rattle.tfs_steps.specs.Ready.{inode-small, inode-in, need-few, claims-are, claims-under}
 
 -- the name is in slot s of a consistent volume, and b is its inode
 pub record Hit (img nm : List ℕ) (s b : ℕ) : Type 0 where
   pub passed : check 512 img ≡ consistent
   pub named : nameAllowed nm ≡ true
-  pub found : s ≡ findName (part 1024 512 img) nm
+  pub found : s ≡ slotOf 512 (view 512 img) nm
   pub below : s < 25
-  pub inode-at : b ≡ slotInode (slot (part 1024 512 img) s)
+  pub inode-at : b ≡ inode (view 512 img) s
 
 -- the first k of a list are the blocks of the file whose inode is b
 pub record Listed (img : List ℕ) (b k : ℕ) (list : List ℕ) : Type 0 where
@@ -52,20 +50,19 @@ module _ (img nm : List ℕ) where
   unfolding removeView
   remove-unallowed e = refuses 8 a new img (omega arith) (rw e)
 
-  pub remove-missing : (s : ℕ) → nameAllowed nm ≡ true → s ≡ findName (part 1024 512 img) nm → 25 ≤ s → Refuses 13 a new img
+  pub remove-missing : (s : ℕ) → nameAllowed nm ≡ true → s ≡ slotOf 512 (view 512 img) nm → 25 ≤ s → Refuses 13 a new img
   unfolding removeView
-  remove-missing s named found h = refuses 13 a new img (omega arith) (rw (named, found-in img nm, ← found, le-ltb s 25 h))
+  remove-missing s named found h = refuses 13 a new img (omega arith) (rw (named, ← found, le-ltb s 25 h))
 
   module _ (s b : ℕ) (hit : Hit img nm s b) where
     slot-is : slotOf 512 v nm ≡ s
-    slot-is = found-in img nm ∙ sym (hit .found)
+    slot-is = sym (hit .found)
 
     file : File 512 v s
     file = subst (File 512 v) slot-is (slot-hit 512 v nm (omega (arith, slot-is)) .0)
 
     inode-is : inode v s ≡ b
-    unfolding inode
-    inode-is = ap (λ (d : List ℕ). slotInode (slot d s)) (dir-is img) ∙ sym (hit .inode-at)
+    inode-is = sym (hit .inode-at)
 
     pub remove-inode : (b * 512 + 512 ≤ length img) × (b < 4096) × (need 512 (inodeSize (block 512 img b)) ≤ 127)
     remove-inode =

@@ -1,106 +1,81 @@
-// Requests that change the directory: format, create, remove.
+// Open, create and remove on a consistent volume: requests by a file's name.
 ghost use mathlib.Core.Path.{_≡_};
-ghost use mathlib.Core.Bool.{cond};
-ghost use Rattle.tfs_spec.specs.View.{view};
 ghost use Rattle.tfs_spec.specs.Check.{consistent, check};
-ghost use Rattle.tfs_spec.specs.Requests.{granted, storeAll, createView, createStores, removeView, removeStores};
-ghost use Rattle.tfs_spec.specs.Requests as rules;
-ghost use Rattle.tfs_answers.specs.Told.{answerTold, AnswerFits, doneTold, DoneFits};
-use tfs_answers::Answer;
-use tfs_answers::Done;
-use tfs_check::Checked;
-use tfs_check::Fault;
-use tfs_dir::find::find_free;
-use tfs_dir::find::find_name;
-use tfs_dir::names::label_allowed;
+ghost use Rattle.tfs_spec.specs.Requests.{openStep, createStep, removeStep};
+ghost use Rattle.tfs_steps.specs.Told.{stepTold, removeTold, StepFits};
 use tfs_dir::names::name_allowed;
-use tfs_dir::slots::slot_inode;
+use tfs_dir::volume::free_slot;
+use tfs_dir::volume::inode_at;
+use tfs_dir::volume::slot_of;
 use tfs_inode::read::blocks_needed;
-use tfs_map::room::free_count;
-use tfs_map::room::pick;
+use tfs_inode::volume::file_blocks;
+use tfs_layout::FILE_BLOCKS;
+use tfs_layout::MAX_SIZE;
+use tfs_layout::SLOTS;
+use tfs_map::volume::choose;
+use tfs_map::volume::free_blocks;
+use tfs_steps::Step;
 use tfs_steps::erase::erase_file;
-use tfs_steps::file::file_blocks;
-use tfs_steps::format::format_blocks;
 use tfs_steps::place::place_file;
 
-// An empty volume with this label, whatever the image held.
-pub fn format(image: &mut [u8], label: &[u8]) -> Done
-    ensures { λ r. ⌜ (doneTold r ≡ rules.format 512 (now (image .entry)) (now (label .entry)) .answer) × (now (image .exit) ≡ rules.format 512 (now (image .entry)) (now (label .entry)) .image) × DoneFits r ⌝ }
-{
-    if image.len() < 1536 {
-        return Done::Inconsistent(Fault::Header(1));
-    }
-    if !label_allowed(label) {
-        return Done::Refused(8);
-    }
-    format_blocks(image, label);
-    Done::Granted
-}
-
-// Creates on a consistent volume.
-fn create_sound(image: &mut [u8], name: &[u8], size: u32) -> Answer
+// The handle of the file with this name.
+pub fn open_step(image: &[u8], name: &[u8]) -> Step
     requires { ⌜ check 512 (now image) ≡ consistent ⌝ }
-    ensures { λ r. ⌜ (answerTold r ≡ createView 512 (view 512 (now (image .entry))) (now (name .entry)) size) × (now (image .exit) ≡ cond (granted (createView 512 (view 512 (now (image .entry))) (now (name .entry)) size)) (storeAll 512 (now (image .entry)) (createStores 512 (view 512 (now (image .entry))) (now (name .entry)) size)) (now (image .entry))) × AnswerFits r ⌝ }
+    ensures { λ r. ⌜ (stepTold r ≡ openStep 512 (now (image .entry)) (now (name .entry))) × StepFits r ⌝ }
 {
     if !name_allowed(name) {
-        return Answer::Refused(8);
+        return Step::Refused(8);
     }
-    if 65024 < size {
-        return Answer::Refused(9);
+    let s = slot_of(image, name);
+    if SLOTS <= s {
+        return Step::Refused(13);
     }
-    if find_name(&image[1024..1536], name) < 25 {
-        return Answer::Refused(10);
-    }
-    let s = find_free(&image[1024..1536]);
-    if 25 <= s {
-        return Answer::Refused(11);
-    }
-    let n = tfs_check::volume::blocks(image);
-    let want = 1 + blocks_needed(size);
-    if free_count(&image[512..1024], n) < want {
-        return Answer::Refused(12);
-    }
-    let mut list = [0u32; 128];
-    pick(&image[512..1024], n, want, &mut list);
-    place_file(image, s, name, size, &list[0..want]);
-    Answer::Granted(list[0])
+    Step::Granted(inode_at(image, s))
 }
 
 // A file of this name and size, all zeros.
-pub fn create(image: &mut [u8], name: &[u8], size: u32) -> Answer
-    ensures { λ r. ⌜ (answerTold r ≡ rules.create 512 (now (image .entry)) (now (name .entry)) size .answer) × (now (image .exit) ≡ rules.create 512 (now (image .entry)) (now (name .entry)) size .image) × AnswerFits r ⌝ }
-{
-    match tfs_check::check(image) {
-        Checked::Refused(f) => Answer::Inconsistent(f),
-        Checked::Consistent => create_sound(image, name, size),
-    }
-}
-
-// Removes on a consistent volume.
-fn remove_sound(image: &mut [u8], name: &[u8]) -> Done
+pub fn create_step(image: &mut [u8], name: &[u8], size: u32) -> Step
     requires { ⌜ check 512 (now image) ≡ consistent ⌝ }
-    ensures { λ r. ⌜ (doneTold r ≡ removeView 512 (view 512 (now (image .entry))) (now (name .entry))) × (now (image .exit) ≡ cond (granted (removeView 512 (view 512 (now (image .entry))) (now (name .entry)))) (storeAll 512 (now (image .entry)) (removeStores 512 (view 512 (now (image .entry))) (now (name .entry)))) (now (image .entry))) × DoneFits r ⌝ }
+    ensures { λ r. ⌜ (stepTold r ≡ createStep 512 (now (image .entry)) (now (name .entry)) size .answer) × (now (image .exit) ≡ createStep 512 (now (image .entry)) (now (name .entry)) size .image) × StepFits r ⌝ }
 {
     if !name_allowed(name) {
-        return Done::Refused(8);
+        return Step::Refused(8);
     }
-    let s = find_name(&image[1024..1536], name);
-    if 25 <= s {
-        return Done::Refused(13);
+    if MAX_SIZE < size {
+        return Step::Refused(9);
     }
-    let b = slot_inode(&image[1024..1536], s);
-    let mut list = [0u32; 128];
-    let k = file_blocks(image, b as usize, &mut list);
-    erase_file(image, s, &list[0..k]);
-    Done::Granted
+    if slot_of(image, name) < SLOTS {
+        return Step::Refused(10);
+    }
+    let s = free_slot(image);
+    if SLOTS <= s {
+        return Step::Refused(11);
+    }
+    let want = 1 + blocks_needed(size);
+    if free_blocks(image) < want {
+        return Step::Refused(12);
+    }
+    let mut list = [0u32; FILE_BLOCKS];
+    choose(image, want, &mut list);
+    place_file(image, s, name, size, &list[0..want]);
+    Step::Granted(list[0])
 }
 
 // Removes the file of this name: its blocks are free, its slot is zero.
-pub fn remove(image: &mut [u8], name: &[u8]) -> Done
-    ensures { λ r. ⌜ (doneTold r ≡ rules.remove 512 (now (image .entry)) (now (name .entry)) .answer) × (now (image .exit) ≡ rules.remove 512 (now (image .entry)) (now (name .entry)) .image) × DoneFits r ⌝ }
+pub fn remove_step(image: &mut [u8], name: &[u8]) -> Step
+    requires { ⌜ check 512 (now image) ≡ consistent ⌝ }
+    ensures { λ r. ⌜ (removeTold r ≡ removeStep 512 (now (image .entry)) (now (name .entry)) .answer) × (now (image .exit) ≡ removeStep 512 (now (image .entry)) (now (name .entry)) .image) × StepFits r ⌝ }
 {
-    match tfs_check::check(image) {
-        Checked::Refused(f) => Done::Inconsistent(f),
-        Checked::Consistent => remove_sound(image, name),
+    if !name_allowed(name) {
+        return Step::Refused(8);
     }
+    let s = slot_of(image, name);
+    if SLOTS <= s {
+        return Step::Refused(13);
+    }
+    let b = inode_at(image, s);
+    let mut list = [0u32; FILE_BLOCKS];
+    let k = file_blocks(image, b as usize, &mut list);
+    erase_file(image, s, &list[0..k]);
+    Step::Granted(0)
 }

@@ -1,3 +1,6 @@
 pub mod Told
-pub mod Head
+pub mod Files
+pub mod Doubled
+pub mod Claimed
+pub mod Owned
 pub mod Order

@@ -3,19 +3,20 @@ use mathlib.Core.Path.{_≡_, refl, sym, ap, _∙_}
 use mathlib.Core.Bool.{Bool, cond}
 use Prim.Native.Nat.{ℕ, _≤_}
 use mathlib.Core.List.{List}
-use lib.ListN.{length, take, drop, set}
+use lib.ListN.{length, set}
 use lib.Dec.{ltb}
-use Rattle.lists.specs.Lists.{withBit, least, zeros, part}
-use Rattle.tfs_spec.specs.Layout.{blocks, block, setBit, setBits}
+use Rattle.lists.specs.Lists.{withBit, least, zeros}
+use Rattle.tfs_spec.specs.Layout.{blocks, setBit, setBits}
 use Rattle.tfs_spec.specs.View.{View, view, viewN}
 use Rattle.tfs_spec.specs.Check.{Verdict, consistent, broken, found, tooShort, badMagic, badLabel, badSlot, badInode, claims, claimedTwice, badBit, checkView, check}
 use Rattle.tfs_dir.specs.Find.{slotBad, first-bad}
+use Rattle.tfs_facts.specs.Views.{view-n}
 use Rattle.tfs_facts.specs.FreshMap.{formatMap}
 use Rattle.tfs_map.specs.Compare.{bitDiffers}
-use Rattle.tfs_inode.specs.Claims.{doubled}
-use Rattle.tfs_tally.specs.Files.{Sized}
-use Rattle.tfs_tally.specs.Claimed.{claims-all-within}
-use Rattle.tfs_tally.specs.Owned.{doubled-is, differs-is}
+use Rattle.tfs_check.specs.Doubled.{doubled}
+use Rattle.tfs_check.specs.Files.{Sized}
+use Rattle.tfs_check.specs.Claimed.{claims-all-within}
+use Rattle.tfs_check.specs.Owned.{doubled-is, differs-is}
 
 -- rules 6 and 7
 unfoldable pub blocksVerdict : ℕ → View → Verdict
@@ -36,10 +37,9 @@ pub check-is : (img : List ℕ) → check 512 img ≡ inOrder (ltb (length img) 
 unfolding check tooShort checkView blocksVerdict view viewN
 check-is img = refl
 
--- rule 4 on the directory as a part of the image
-pub slots-at : (img : List ℕ) (n : ℕ) → n ≡ blocks 512 img → least (slotBad n (take 512 (drop 1024 img))) 25 ≡ least (badSlot (view 512 img)) 25
-unfolding view viewN block part
-slots-at img n e = ap (λ (k : ℕ). least (slotBad k (take 512 (drop 1024 img))) 25) e ∙ sym (first-bad (view 512 img))
+-- rule 4 on the directory
+pub slots-at : (img : List ℕ) (n : ℕ) → n ≡ blocks 512 img → least (slotBad n (view 512 img .dir)) 25 ≡ least (badSlot (view 512 img)) 25
+slots-at img n e = ap (λ (k : ℕ). least (slotBad k (view 512 img .dir)) 25) (e ∙ sym (view-n 512 img)) ∙ sym (first-bad (view 512 img))
 
 -- rules 6 and 7 from claims in the map that format makes
 pub start-map : set (zeros 512) 3 7 ≡ formatMap 512
@@ -50,6 +50,5 @@ module _ (img : List ℕ) (w : Sized img) (n : ℕ) where
   pub twice-at : doubled (set (zeros 512) 3 7) (claims 512 (view 512 img)) n ≡ least (claimedTwice (claims 512 (view 512 img))) n
   twice-at = rw start-map (doubled-is (claims 512 (view 512 img)) (claims-all-within img w) n)
 
-  pub bits-at : n ≤ 4096 → least (bitDiffers (take 512 (drop 512 img)) (setBits (set (zeros 512) 3 7) 1 (claims 512 (view 512 img)))) n ≡ least (badBit (view 512 img) (claims 512 (view 512 img))) n
-  unfolding view viewN block part
+  pub bits-at : n ≤ 4096 → least (bitDiffers (view 512 img .map) (setBits (set (zeros 512) 3 7) 1 (claims 512 (view 512 img)))) n ≡ least (badBit (view 512 img) (claims 512 (view 512 img))) n
   bits-at small = rw start-map (differs-is (claims 512 (view 512 img)) (claims-all-within img w) n small (view 512 img))

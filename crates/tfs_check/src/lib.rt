@@ -1,75 +1,73 @@
 // The consistency check of a volume: the first broken rule, at its lowest place.
-pub mod volume; // volume.rt: the size and the header
+mod header; // header.rt: rules 2 and 3, the header
+mod files; // files.rt: rule 5, the inodes of the files
+mod claims; // claims.rt: the blocks that the files claim
 
 ghost use mathlib.Core.Path.{_≡_};
 ghost use Prim.Native.Nat.{_≤_};
 ghost use Rattle.tfs_spec.specs.View.{view};
 ghost use Rattle.tfs_spec.specs.Check.{check};
-ghost use Rattle.tfs_check.specs.Told.{checkedTold, CheckedFits};
-ghost use Rattle.tfs_tally.specs.Files.{Sized};
+ghost use Rattle.tfs_check.specs.Told.{verdictTold, VerdictFits};
+ghost use Rattle.tfs_check.specs.Files.{Sized};
 ghost use Rattle.tfs_check.specs.Order.{blocksVerdict};
-use crate::volume::blocks;
-use crate::volume::label_wrong;
-use crate::volume::magic_wrong;
+use crate::claims::claim_files;
+use crate::files::first_bad_inode;
+use crate::header::label_wrong;
+use crate::header::magic_wrong;
 use tfs_dir::find::first_bad_slot;
+use tfs_layout::BLOCK;
+use tfs_layout::LOW_END;
+use tfs_layout::SLOTS;
+use tfs_layout::blocks;
+use tfs_layout::dir_of;
+use tfs_layout::map_of;
 use tfs_map::compare::first_difference;
-use tfs_tally::claims::claim_files;
-use tfs_tally::files::first_bad_inode;
 
-// What is wrong with a volume: the rule's number, and the slot or the block at fault.
-pub enum Fault {
-    // rules 1 to 3: the header of the volume
-    Header(u32),
-    // rules 4 and 5
-    Slot(u32, u32),
-    // rules 6 and 7
-    Block(u32, u32),
-}
-
-pub enum Checked {
+// What the check finds: nothing, or the first broken rule and the lowest slot or block that breaks it.
+pub enum Verdict {
     Consistent,
-    Refused(Fault),
+    Broken(u32, u32),
 }
 
 // Rules 6 and 7 of a volume of n blocks that breaks no earlier rule: the claimed blocks get a map of their own, in which blocks 0 to 2 are marked.
-fn check_blocks(image: &[u8], n: usize) -> Checked
+fn check_blocks(image: &[u8], n: usize) -> Verdict
     requires { ⌜ Sized (now image) × (n ≤ 4096) ⌝ }
-    ensures { λ r. ⌜ (checkedTold r ≡ blocksVerdict n (view 512 (now (image .entry)))) × CheckedFits r ⌝ }
+    ensures { λ r. ⌜ (verdictTold r ≡ blocksVerdict n (view 512 (now (image .entry)))) × VerdictFits r ⌝ }
 {
-    let mut owned = [0u8; 512];
+    let mut owned = [0u8; BLOCK];
     owned[3] = 7;
     let twice = claim_files(image, &mut owned, n);
     if twice < n {
-        return Checked::Refused(Fault::Block(6, twice as u32));
+        return Verdict::Broken(6, twice as u32);
     }
-    let bit = first_difference(&image[512..1024], &owned, n);
+    let bit = first_difference(map_of(image), &owned, n);
     if bit < n {
-        return Checked::Refused(Fault::Block(7, bit as u32));
+        return Verdict::Broken(7, bit as u32);
     }
-    Checked::Consistent
+    Verdict::Consistent
 }
 
 // The first broken rule of the volume, at its lowest place.
-pub fn check(image: &[u8]) -> Checked
-    ensures { λ r. ⌜ (checkedTold r ≡ check 512 (now (image .entry))) × CheckedFits r ⌝ }
+pub fn check(image: &[u8]) -> Verdict
+    ensures { λ r. ⌜ (verdictTold r ≡ check 512 (now (image .entry))) × VerdictFits r ⌝ }
 {
-    if image.len() < 1536 {
-        return Checked::Refused(Fault::Header(1));
+    if image.len() < LOW_END {
+        return Verdict::Broken(1, 0);
     }
     if magic_wrong(image) {
-        return Checked::Refused(Fault::Header(2));
+        return Verdict::Broken(2, 0);
     }
     if label_wrong(image) {
-        return Checked::Refused(Fault::Header(3));
+        return Verdict::Broken(3, 0);
     }
     let n = blocks(image);
-    let slot = first_bad_slot(&image[1024..1536], n);
-    if slot < 25 {
-        return Checked::Refused(Fault::Slot(4, slot as u32));
+    let slot = first_bad_slot(dir_of(image), n);
+    if slot < SLOTS {
+        return Verdict::Broken(4, slot as u32);
     }
     let inode = first_bad_inode(image, n);
-    if inode < 25 {
-        return Checked::Refused(Fault::Slot(5, inode as u32));
+    if inode < SLOTS {
+        return Verdict::Broken(5, inode as u32);
     }
     check_blocks(image, n)
 }

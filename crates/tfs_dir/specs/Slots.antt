@@ -71,27 +71,25 @@ module _ (dir : List ℕ) (s : ℕ) (h : length dir ≡ 512) (b : s < 25) where
 -- ---- the last byte of a name
 -- whether it stands in slot s at its place, or there is no such place
 unfoldable pub lastSame : List ℕ → ℕ → List ℕ → Bool
-lastSame dir s name = ltb (length name) 1 || (ltb 16 (length name) || eqb (getD dir (s * 20 + 3 + length name) 0) (getD name (length name - 1) 0))
+lastSame dir s name = ltb (length name) 1 || (ltb 16 (length name) || eqb (getD dir (s * 20 + 4 + (length name - 1)) 0) (getD name (length name - 1) 0))
 
 -- where it does not, the slot has another name
 module _ (dir : List ℕ) (s : ℕ) (name : List ℕ) (h : length dir ≡ 512) (b : s < 25) where
-  last-is : slotName (slot dir s) ≡ name → 1 ≤ length name → getD dir (s * 20 + 3 + length name) 0 ≡ getD name (length name - 1) 0
+  last-is : slotName (slot dir s) ≡ name → 1 ≤ length name → getD dir (s * 20 + 4 + (length name - 1)) 0 ≡ getD name (length name - 1) 0
   last-is e l =
       let field : List ℕ = part (s * 20 + 4) 16 dir in
       let z : firstZero field ≡ length name = sym (length-name dir s h b) ∙ ap length e in
       let short : length name ≤ 16 = omega (arith, ap length e, name-le dir s h b) in
-      let at : s * 20 + 4 + (length name - 1) ≡ s * 20 + 3 + length name = omega arith in
       sym
       (ap (λ (x : List ℕ). getD x (length name - 1) 0) (sym (name-field dir s ∙ e))
       ∙ getD-take (firstZero field) field (length name - 1) 0 (omega arith)
-      ∙ getD-part (s * 20 + 4) 16 dir (length name - 1) (omega arith)
-      ∙ ap (λ (i : ℕ). getD dir i 0) at)
+      ∙ getD-part (s * 20 + 4) 16 dir (length name - 1) (omega arith))
 
   pub last-not : lastSame dir s name ≡ false → sameName (slotName (slot dir s)) name ≡ false
   unfolding lastSame sameName
   last-not e =
       let k : ℕ = length name in
-      let x : ℕ = getD dir (s * 20 + 3 + k) 0 in
+      let x : ℕ = getD dir (s * 20 + 4 + (k - 1)) 0 in
       let y : ℕ = getD name (k - 1) 0 in
       let rest : (ltb 16 k || eqb x y) ≡ false = or-no-r (ltb k 1) (ltb 16 k || eqb x y) e in
       let some : 1 ≤ k = ltb-false k 1 (or-no-l (ltb k 1) (ltb 16 k || eqb x y) e) in

@@ -9,6 +9,9 @@ use crate::slots::slot_free;
 use crate::slots::slot_inode;
 use crate::slots::slot_named;
 use crate::slots::slot_used;
+use tfs_layout::NAME_AT;
+use tfs_layout::SLOT;
+use tfs_layout::SLOTS;
 
 // Whether slot s is taken, under this name.
 pub fn slot_holds(dir: &[u8], name: &[u8], s: usize) -> bool
@@ -53,7 +56,7 @@ pub fn slot_repeats(dir: &[u8], s: usize) -> bool
     ensures { λ r. ⌜ r ≡ slotRepeats (now (dir .entry)) s ⌝ }
 {
     let k = name_length(dir, s);
-    let a = s * 20 + 4;
+    let a = s * SLOT + NAME_AT;
     let e = a + k;
     first_named(dir, &dir[a..e], s) < s
 }
@@ -78,13 +81,13 @@ pub fn first_bad_slot(dir: &[u8], n: usize) -> usize
     ensures { λ r. ⌜ r ≡ least (slotBad n (now (dir .entry))) 25 ⌝ }
 {
     let mut s = 0;
-    while s < 25 {
+    while s < SLOTS {
         if slot_bad(dir, n, s) {
             return s;
         }
         s += 1;
     }
-    25
+    SLOTS
 }
 
 // The slot of a name, or 25.
@@ -92,7 +95,7 @@ pub fn find_name(dir: &[u8], name: &[u8]) -> usize
     requires { ⌜ length (now dir) ≡ 512 ⌝ }
     ensures { λ r. ⌜ (r ≡ findName (now (dir .entry)) (now (name .entry))) × (r ≤ 25) ⌝ }
 {
-    first_named(dir, name, 25)
+    first_named(dir, name, SLOTS)
 }
 
 // The slot with the inode h, or 25.
@@ -101,13 +104,13 @@ pub fn find_handle(dir: &[u8], h: u32) -> usize
     ensures { λ r. ⌜ (r ≡ findHandle (now (dir .entry)) h) × (r ≤ 25) ⌝ }
 {
     let mut s = 0;
-    while s < 25 {
+    while s < SLOTS {
         if slot_handles(dir, h, s) {
             return s;
         }
         s += 1;
     }
-    25
+    SLOTS
 }
 
 // The first free slot, or 25.
@@ -116,11 +119,11 @@ pub fn find_free(dir: &[u8]) -> usize
     ensures { λ r. ⌜ (r ≡ findFree (now (dir .entry))) × (r ≤ 25) ⌝ }
 {
     let mut free = 0;
-    while free < 25 {
+    while free < SLOTS {
         if slot_free(dir, free) {
             return free;
         }
         free += 1;
     }
-    25
+    SLOTS
 }

@@ -4,12 +4,13 @@ ghost use lib.ListN.{length};
 ghost use Rattle.tfs_spec.specs.Layout.{nameFormed, nameAllowed, labelAllowed};
 use spans::search::all_zero;
 use spans::search::first_zero;
+use tfs_layout::NAME;
 
 // Whether a volume may have this name: under 16 bytes, none of them zero.
 pub fn label_allowed(name: &[u8]) -> bool
     ensures { λ r. ⌜ r ≡ labelAllowed (now (name .entry)) ⌝ }
 {
-    if name.len() < 16 {
+    if name.len() < NAME {
         return first_zero(name) == name.len();
     }
     false
@@ -34,8 +35,8 @@ pub fn name_formed(field: &[u8]) -> bool
     if z < 1 {
         return false;
     }
-    if 16 <= z {
+    if NAME <= z {
         return false;
     }
-    all_zero(&field[z..16])
+    all_zero(&field[z..NAME])
 }

@@ -11,14 +11,17 @@ use spans::search::first_zero;
 use spans::search::same;
 use spans::words::be32;
 use spans::words::five_zero;
+use tfs_layout::NAME;
+use tfs_layout::NAME_AT;
+use tfs_layout::SLOT;
 
 // Whether slot s is free.
 pub fn slot_free(dir: &[u8], s: usize) -> bool
     requires { ⌜ (length (now dir) ≡ 512) × (s < 25) ⌝ }
     ensures { λ r. ⌜ r ≡ slotFree (slot (now (dir .entry)) s) ⌝ }
 {
-    let a = s * 20;
-    let e = a + 20;
+    let a = s * SLOT;
+    let e = a + SLOT;
     five_zero(&dir[a..e])
 }
 
@@ -27,8 +30,8 @@ pub fn slot_inode(dir: &[u8], s: usize) -> u32
     requires { ⌜ (length (now dir) ≡ 512) × (s < 25) ⌝ }
     ensures { λ r. ⌜ r ≡ slotInode (slot (now (dir .entry)) s) ⌝ }
 {
-    let a = s * 20;
-    let e = a + 20;
+    let a = s * SLOT;
+    let e = a + SLOT;
     be32(&dir[a..e], 0)
 }
 
@@ -45,8 +48,8 @@ pub fn slot_used(dir: &[u8], s: usize, n: usize) -> bool
     if n <= b {
         return false;
     }
-    let a = s * 20 + 4;
-    let e = a + 16;
+    let a = s * SLOT + NAME_AT;
+    let e = a + NAME;
     name_formed(&dir[a..e])
 }
 
@@ -55,8 +58,8 @@ pub fn name_length(dir: &[u8], s: usize) -> usize
     requires { ⌜ (length (now dir) ≡ 512) × (s < 25) ⌝ }
     ensures { λ r. ⌜ (r ≡ length (slotName (slot (now (dir .entry)) s))) × (r ≤ 16) ⌝ }
 {
-    let a = s * 20 + 4;
-    let e = a + 16;
+    let a = s * SLOT + NAME_AT;
+    let e = a + NAME;
     first_zero(&dir[a..e])
 }
 
@@ -69,10 +72,11 @@ fn last_same(dir: &[u8], s: usize, name: &[u8]) -> bool
     if k < 1 {
         return true;
     }
-    if 16 < k {
+    if NAME < k {
         return true;
     }
-    dir[s * 20 + 3 + k] == name[k - 1]
+    let last = k - 1;
+    dir[s * SLOT + NAME_AT + last] == name[last]
 }
 
 // Whether the name in slot s is this one.
@@ -84,20 +88,20 @@ pub fn slot_named(dir: &[u8], s: usize, name: &[u8]) -> bool
         return false;
     }
     let k = name_length(dir, s);
-    let a = s * 20 + 4;
+    let a = s * SLOT + NAME_AT;
     let e = a + k;
     same(&dir[a..e], name)
 }
 
 // The name in slot s, padded with zeros.
-pub fn slot_name(dir: &[u8], s: usize) -> [u8; 16]
+pub fn slot_name(dir: &[u8], s: usize) -> [u8; NAME]
     requires { ⌜ (length (now dir) ≡ 512) × (s < 25) ⌝ }
     ensures { λ r. ⌜ r ≡ padTo 16 (slotName (slot (now (dir .entry)) s)) ⌝ }
 {
     let k = name_length(dir, s);
-    let a = s * 20 + 4;
+    let a = s * SLOT + NAME_AT;
     let e = a + k;
-    let mut name = [0u8; 16];
+    let mut name = [0u8; NAME];
     copy(&mut name[0..k], &dir[a..e]);
     name
 }

@@ -4,6 +4,8 @@ ghost use Prim.Native.Nat.{_+_, _*_, _<_};
 ghost use lib.ListN.{length};
 ghost use Rattle.tfs_spec.specs.Layout.{need, inodeSize, inodeNumber};
 use spans::words::be32;
+use tfs_layout::BLOCK;
+use tfs_layout::LAST;
 
 // The file's size in bytes.
 pub fn inode_size(ino: &[u8]) -> u32
@@ -42,5 +44,5 @@ pub fn blocks_needed(size: u32) -> usize
     ensures { λ r. ⌜ r ≡ need 512 size ⌝ }
 {
     let bytes = size as usize;
-    (bytes + 511) / 512
+    (bytes + LAST) / BLOCK
 }

@@ -8,6 +8,8 @@ ghost use Rattle.tfs_inode.specs.Wrong.{numberWrong, numbersWrong, inode
 use crate::read::blocks_needed;
 use crate::read::inode_number;
 use crate::read::inode_size;
+use tfs_layout::MAX_SIZE;
+use tfs_layout::NUMBERS;
 
 // Whether b is a block of a file, in a volume of n blocks.
 fn in_range(n: usize, b: u32) -> bool
@@ -43,7 +45,7 @@ fn numbers_wrong(ino: &[u8], n: usize) -> bool
         return true;
     }
     let mut k = count;
-    while k < 127 {
+    while k < NUMBERS {
         if inode_number(ino, k) != 0 {
             return true;
         }
@@ -57,7 +59,7 @@ pub fn inode_wrong(ino: &[u8], n: usize) -> bool
     requires { ⌜ (length (now ino) ≡ 512) × (n ≤ 4096) ⌝ }
     ensures { λ r. ⌜ r ≡ inodeWrong 512 n (now (ino .entry)) ⌝ }
 {
-    if 65024 < inode_size(ino) {
+    if MAX_SIZE < inode_size(ino) {
         return true;
     }
     numbers_wrong(ino, n)

@@ -6,6 +6,7 @@ ghost use Rattle.lists.specs.Lists.{least};
 ghost use Rattle.tfs_map.specs.Compare.{bitDiffers};
 use crate::bit::map_bit;
 use spans::words::same_words;
+use tfs_layout::BLOCK;
 
 // Whether bit k differs.
 fn bit_differs(a: &[u8], b: &[u8], k: usize) -> bool
@@ -20,7 +21,7 @@ fn bit_differs(a: &[u8], b: &[u8], k: usize) -> bool
 }
 
 // The first bit below n that differs, or n: words that are the same are passed over.
-pub fn first_difference(a: &[u8], b: &[u8; 512], n: usize) -> usize
+pub fn first_difference(a: &[u8], b: &[u8; BLOCK], n: usize) -> usize
     requires { ⌜ (length (now a) ≡ 512) × (n ≤ 4096) ⌝ }
     ensures { λ r. ⌜ r ≡ least (bitDiffers (now (a .entry)) (now (b .entry))) n ⌝ }
 {

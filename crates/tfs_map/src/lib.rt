@@ -2,4 +2,5 @@
 pub mod bit; // bit.rt: one bit
 pub mod bits; // bits.rt: the bits of a list of blocks
 pub mod compare; // compare.rt: two maps compared
-pub mod room; // room.rt: the free blocks
+mod room; // room.rt: the free blocks
+pub mod volume; // volume.rt: the map in its place in the image

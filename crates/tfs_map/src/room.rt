@@ -8,6 +8,7 @@ ghost use Rattle.tfs_map.specs.Free.{freeBelow, nextFree};
 ghost use Rattle.tfs_map.specs.Words.{wordHeld, heldFrom};
 use crate::bit::map_bit;
 use spans::words::word_is;
+use tfs_layout::FILE_BLOCKS;
 
 // How many blocks from `from` on and below `to` are free.
 fn free_bits(map: &[u8], from: usize, to: usize) -> usize
@@ -115,7 +116,7 @@ fn pick_into(map: &[u8], n: usize, want: usize, out: &mut [u32])
 }
 
 // The same to an array, which has room for the blocks of any file.
-pub fn pick(map: &[u8], n: usize, want: usize, out: &mut [u32; 128])
+pub fn pick(map: &[u8], n: usize, want: usize, out: &mut [u32; FILE_BLOCKS])
     requires { ⌜ (length (now map) ≡ 512) × (n ≤ 4096) × (want ≤ 128) × (want ≤ length (freeFrom (now map) 0 n)) ⌝ }
     ensures { λ _. ⌜ now (out .exit) ≡ take want (freeFrom (now (map .entry)) 0 n) ++ drop want (now (out .entry)) ⌝ }
 {

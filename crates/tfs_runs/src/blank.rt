@@ -7,14 +7,15 @@ ghost use Rattle.tfs_spec.specs.Layout.{setBlock};
 ghost use Rattle.tfs_spec.specs.Requests.{storeAll, zeroStores};
 ghost use Rattle.tfs_runs.specs.Place.{Inside};
 use crate::run::wide;
+use tfs_layout::BLOCK;
 
 // Makes block b zero.
 fn zero_block(image: &mut [u8], b: usize)
     requires { ⌜ b * 512 + 512 ≤ length (now image) ⌝ }
     ensures { λ _. ⌜ now (image .exit) ≡ setBlock 512 (now (image .entry)) b (zeros 512) ⌝ }
 {
-    let s = b * 512;
-    let e = s + 512;
+    let s = b * BLOCK;
+    let e = s + BLOCK;
     spans::copy::zero(&mut image[s..e]);
 }
 

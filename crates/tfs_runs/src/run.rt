@@ -3,6 +3,7 @@ ghost use mathlib.Core.Path.{_≡_};
 ghost use Prim.Native.Nat.{_-_, _*_, _%_, _<_, min};
 ghost use lib.ListN.{length};
 ghost use Rattle.tfs_runs.specs.Place.{at};
+use tfs_layout::BLOCK;
 
 // x, in more bits.
 pub fn wide(x: u32) -> usize
@@ -16,16 +17,16 @@ pub fn place(blocks: &[u32], p: usize) -> usize
     requires { ⌜ p < 512 * length (now blocks) ⌝ }
     ensures { λ r. ⌜ r ≡ at (now (blocks .entry)) p ⌝ }
 {
-    let k = p / 512;
+    let k = p / BLOCK;
     let b = blocks[k];
-    wide(b) * 512 + p % 512
+    wide(b) * BLOCK + p % BLOCK
 }
 
 // The number of bytes from position p on that lie in one block, at most left.
 pub fn room(p: usize, left: usize) -> usize
     ensures { λ r. ⌜ r ≡ min (512 - p % 512) left ⌝ }
 {
-    let in_block = 512 - p % 512;
+    let in_block = BLOCK - p % BLOCK;
     if in_block < left {
         return in_block;
     }

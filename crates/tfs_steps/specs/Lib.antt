@@ -1,3 +1,5 @@
+pub mod Told
 pub mod Format
 pub mod Place
 pub mod Erase
+pub mod Ready

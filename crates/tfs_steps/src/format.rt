@@ -8,6 +8,12 @@ ghost use Rattle.tfs_steps.specs.Format.{freshHead, freshMap, freshDir};
 use spans::copy::copy;
 use spans::copy::zero;
 use spans::words::put32;
+use tfs_layout::BLOCK;
+use tfs_layout::DIR_AT;
+use tfs_layout::LOW_END;
+use tfs_layout::MAGIC;
+use tfs_layout::MAP_AT;
+use tfs_layout::NAME_AT;
 use tfs_map::bit::set_bit;
 
 // The magic number, then the label and zeros.
@@ -16,9 +22,9 @@ fn fill_head(head: &mut [u8], label: &[u8])
     ensures { λ _. ⌜ now (head .exit) ≡ freshHead 512 (now (label .entry)) ⌝ }
 {
     zero(head);
-    put32(head, 0, 3745);
-    let e = 4 + label.len();
-    copy(&mut head[4..e], label);
+    put32(head, 0, MAGIC);
+    let e = NAME_AT + label.len();
+    copy(&mut head[NAME_AT..e], label);
 }
 
 // The map in which the first three blocks are reserved.
@@ -37,7 +43,7 @@ fn format_head(image: &mut [u8], label: &[u8])
     requires { ⌜ (1536 ≤ length (now image)) × (length (now label) ≤ 15) ⌝ }
     ensures { λ _. ⌜ now (image .exit) ≡ setBlock 512 (now (image .entry)) 0 (freshHead 512 (now (label .entry))) ⌝ }
 {
-    fill_head(&mut image[0..512], label);
+    fill_head(&mut image[0..BLOCK], label);
 }
 
 // Block 1.
@@ -45,7 +51,7 @@ fn format_map(image: &mut [u8])
     requires { ⌜ 1536 ≤ length (now image) ⌝ }
     ensures { λ _. ⌜ now (image .exit) ≡ setBlock 512 (now (image .entry)) 1 (freshMap 512) ⌝ }
 {
-    fill_map(&mut image[512..1024]);
+    fill_map(&mut image[MAP_AT..DIR_AT]);
 }
 
 // Block 2.
@@ -53,7 +59,7 @@ fn format_dir(image: &mut [u8])
     requires { ⌜ 1536 ≤ length (now image) ⌝ }
     ensures { λ _. ⌜ now (image .exit) ≡ setBlock 512 (now (image .entry)) 2 (freshDir 512) ⌝ }
 {
-    zero(&mut image[1024..1536]);
+    zero(&mut image[DIR_AT..LOW_END]);
 }
 
 // The three blocks of a volume with no files.

@@ -6,6 +6,9 @@ ghost use Rattle.tfs_spec.specs.Layout.{block, setBlock, setBits, setSlot, entr
 ghost use Rattle.tfs_map.specs.Under.{Under};
 use tfs_dir::write::clear_slot;
 use tfs_dir::write::put_slot;
+use tfs_layout::DIR_AT;
+use tfs_layout::LOW_END;
+use tfs_layout::MAP_AT;
 use tfs_map::bits::clear_bits;
 use tfs_map::bits::set_bits;
 
@@ -14,7 +17,7 @@ pub fn reserve(image: &mut [u8], blocks: &[u32])
     requires { ⌜ (1536 ≤ length (now image)) × Under 4096 (now blocks) ⌝ }
     ensures { λ _. ⌜ now (image .exit) ≡ setBlock 512 (now (image .entry)) 1 (setBits (block 512 (now (image .entry)) 1) 1 (now (blocks .entry))) ⌝ }
 {
-    set_bits(&mut image[512..1024], blocks);
+    set_bits(&mut image[MAP_AT..DIR_AT], blocks);
 }
 
 // Makes the blocks free.
@@ -22,7 +25,7 @@ pub fn release(image: &mut [u8], blocks: &[u32])
     requires { ⌜ (1536 ≤ length (now image)) × Under 4096 (now blocks) ⌝ }
     ensures { λ _. ⌜ now (image .exit) ≡ setBlock 512 (now (image .entry)) 1 (setBits (block 512 (now (image .entry)) 1) 0 (now (blocks .entry))) ⌝ }
 {
-    clear_bits(&mut image[512..1024], blocks);
+    clear_bits(&mut image[MAP_AT..DIR_AT], blocks);
 }
 
 // Enters a file in slot s.
@@ -30,7 +33,7 @@ pub fn enter(image: &mut [u8], s: usize, inode: u32, name: &[u8])
     requires { ⌜ (1536 ≤ length (now image)) × (s < 25) × (length (now name) ≤ 15) ⌝ }
     ensures { λ _. ⌜ now (image .exit) ≡ setBlock 512 (now (image .entry)) 2 (setSlot (block 512 (now (image .entry)) 2) s (entry inode (now (name .entry)))) ⌝ }
 {
-    put_slot(&mut image[1024..1536], s, inode, name);
+    put_slot(&mut image[DIR_AT..LOW_END], s, inode, name);
 }
 
 // Makes slot s free.
@@ -38,5 +41,5 @@ pub fn vacate(image: &mut [u8], s: usize)
     requires { ⌜ (1536 ≤ length (now image)) × (s < 25) ⌝ }
     ensures { λ _. ⌜ now (image .exit) ≡ setBlock 512 (now (image .entry)) 2 (setSlot (block 512 (now (image .entry)) 2) s (replicate 20 0)) ⌝ }
 {
-    clear_slot(&mut image[1024..1536], s);
+    clear_slot(&mut image[DIR_AT..LOW_END], s);
 }

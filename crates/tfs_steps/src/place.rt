@@ -9,6 +9,7 @@ ghost use Rattle.tfs_steps.specs.Place.{Placeable};
 use crate::low::enter;
 use crate::low::reserve;
 use tfs_inode::put::put_inode;
+use tfs_layout::BLOCK;
 use tfs_runs::blank::zero_blocks;
 
 // Makes block b the inode of a file of `size` bytes in the given blocks.
@@ -16,8 +17,8 @@ fn store_inode(image: &mut [u8], b: usize, size: u32, blocks: &[u32])
     requires { ⌜ (b * 512 + 512 ≤ length (now image)) × (length (now blocks) ≤ 127) ⌝ }
     ensures { λ _. ⌜ now (image .exit) ≡ setBlock 512 (now (image .entry)) b (inodeBlock 512 size (now (blocks .entry))) ⌝ }
 {
-    let s = b * 512;
-    let e = s + 512;
+    let s = b * BLOCK;
+    let e = s + BLOCK;
     put_inode(&mut image[s..e], size, blocks);
 }
 

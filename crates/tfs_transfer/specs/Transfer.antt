@@ -1,40 +1,36 @@
 -- What a transfer by a handle comes to, from the numbers that the code has in hand.
-use mathlib.Core.Path.{_≡_, sym, ap, _∙_}
+use mathlib.Core.Path.{_≡_, sym}
 use Prim.Native.Nat.{ℕ, _+_, _-_, _*_, _≤_, _<_, min}
 use mathlib.Core.List.{List, _++_}
 use native.Mathlib.Omega.{arith}
 use lib.ListN.{length, getD, take, drop, length-append}
 use lib.Seq.{length-take-le}
 use borrow.Author.Tests.{lt-ltb, le-ltb}
-use Rattle.lists.specs.Lists.{part, table, storeAt}
+use Rattle.lists.specs.Lists.{table, storeAt}
 use Rattle.tfs_spec.specs.Layout.{need, block, inodeSize}
 use Rattle.tfs_spec.specs.View.{view, inode, size, slotWith, place}
 use Rattle.tfs_spec.specs.Check.{consistent, check}
 use Rattle.tfs_spec.specs.Consistent.{File}
-use Rattle.tfs_spec.specs.Requests.{refused, value, counted, transferView, readBuffer, writeImage}
+use Rattle.tfs_spec.specs.Requests.{Answer, refused, value, counted, transferView, readBuffer, writeImage}
 use Rattle.tfs_facts.specs.Names.{handle-hit}
-use Rattle.tfs_dir.specs.Find.{findHandle, slot-with}
 use Rattle.tfs_inode.specs.Claims.{claimList, length-claims}
 use Rattle.tfs_runs.specs.Place.{at, Inside}
-use Rattle.tfs_answers.specs.Ready.{contentList, content-cut, dir-is, inode-in, inode-small, size-is, need-few, length-content-list, content-inside, read-is, write-is, within}
-
--- ---- the slot that the search over the directory gives
-found-is : (img : List ℕ) (h s : ℕ) → s ≡ findHandle (take 512 (drop 1024 img)) h → s ≡ slotWith 512 (view 512 img) h
-unfolding part
-found-is img h s f = f ∙ sym (slot-with (view 512 img) h ∙ ap (λ (d : List ℕ). findHandle d h) (dir-is img))
+use Rattle.tfs_transfer.specs.declared.Reach.{Reach}
+use Rattle.tfs_transfer.specs.declared.Reach.the-variants.{Bytes, Refused}
+use Rattle.tfs_steps.specs.Ready.{contentList, content-cut, inode-in, inode-small, size-is, need-few, length-content-list, content-inside, read-is, write-is, within}
 
 -- no file has the handle
-pub absent : (img : List ℕ) (h s o len : ℕ) → s ≡ findHandle (take 512 (drop 1024 img)) h → 25 ≤ s → transferView 512 (view 512 img) h o len ≡ refused 14 0
+pub absent : (img : List ℕ) (h s o len : ℕ) → s ≡ slotWith 512 (view 512 img) h → 25 ≤ s → transferView 512 (view 512 img) h o len ≡ refused 14 0
 unfolding transferView
-absent img h s o len f l = rw (← found-is img h s f, le-ltb s 25 l)
+absent img h s o len f l = rw (← f, le-ltb s 25 l)
 
 -- ---- a consistent volume, and a file that has the handle
 pub record Held (img : List ℕ) (h : ℕ) : Type 0 where
   pub passed : check 512 img ≡ consistent
   pub low : slotWith 512 (view 512 img) h < 25
 
-pub held : (img : List ℕ) (h s : ℕ) → check 512 img ≡ consistent → s ≡ findHandle (take 512 (drop 1024 img)) h → s < 25 → Held img h
-held img h s p f l = record { passed = p; low = omega (arith, found-is img h s f) }
+pub held : (img : List ℕ) (h s : ℕ) → check 512 img ≡ consistent → s ≡ slotWith 512 (view 512 img) h → s < 25 → Held img h
+held img h s p f l = record { passed = p; low = omega arith }
 
 module _ {img : List ℕ} {h : ℕ} (a : Held img h) where
   file : File 512 (view 512 img) (slotWith 512 (view 512 img) h)
@@ -121,3 +117,14 @@ module _ {img : List ℕ} {h o len c : ℕ} (a : Moves img h o len c) where
         rw (inode-is (a .holds)) at (write-is img (a .holds .passed) (slotWith 512 (view 512 img) h) (file (a .holds)) o (take c buf) (omega (arith, short, reach)))
         in
         rw (r, e, same, ← w, counted-is)
+
+-- ---- what the code finds of a transfer
+abbrev pub reachTold : Reach → Answer
+reachTold (Bytes c k) = value c
+reachTold (Refused num) = refused num 0
+
+-- from 1 to k the list has the file's content blocks
+abbrev pub Reaches : List ℕ → ℕ → ℕ → ℕ → List ℕ → Reach → Type 0
+Reaches img h o len list (Bytes c k) =
+    Moves img h o len c × (1 ≤ k) × (k ≤ length list) × (take (k - 1) (drop 1 list) ≡ contentList (block 512 img h))
+Reaches img h o len list (Refused num) = 8 ≤ num

@@ -1,20 +1,25 @@
-// Read and write: bytes between a buffer and the file that a handle means.
+// Read and write on a consistent volume: bytes between a buffer and the file that a handle means.
 ghost use mathlib.Core.Path.{_≡_};
-ghost use mathlib.Core.Bool.{cond};
-ghost use lib.ListN.{length};
 ghost use Prim.Native.Nat.{_-_, _≤_, min};
-ghost use Rattle.tfs_spec.specs.View.{view, slotWith};
+ghost use Rattle.tfs_spec.specs.View.{view};
 ghost use Rattle.tfs_spec.specs.Check.{consistent, check};
-ghost use Rattle.tfs_spec.specs.Requests.{granted, transferView, readBuffer, writeImage};
-ghost use Rattle.tfs_spec.specs.Requests as rules;
-ghost use Rattle.tfs_answers.specs.Told.{answerTold, AnswerFits};
-use tfs_answers::Answer;
-use tfs_check::Checked;
-use tfs_dir::find::find_handle;
+ghost use Rattle.tfs_spec.specs.Requests.{transferView, readStep, writeStep};
+ghost use Rattle.tfs_steps.specs.Told.{stepTold, StepFits};
+ghost use Rattle.tfs_transfer.specs.Transfer.{reachTold, Reaches};
+use tfs_dir::volume::slot_with;
+use tfs_inode::volume::file_blocks;
+use tfs_inode::volume::file_size;
+use tfs_layout::FILE_BLOCKS;
+use tfs_layout::SLOTS;
 use tfs_runs::read::read_runs;
 use tfs_runs::write::write_runs;
-use tfs_steps::file::file_blocks;
-use tfs_steps::file::file_size;
+use tfs_steps::Step;
+
+// How far a transfer reaches: how many bytes it moves and how many blocks the file has with its inode's, or the refusal's number.
+enum Reach {
+    Bytes(u32, usize),
+    Refused(u32),
+}
 
 // The smaller of a buffer's length and what the file has from the offset on.
 fn count_of(len: usize, size: u32, offset: u32) -> usize
@@ -25,64 +30,59 @@ fn count_of(len: usize, size: u32, offset: u32) -> usize
     if len < left { len } else { left }
 }
 
-// Reads on a consistent volume.
-fn read_sound(image: &[u8], handle: u32, offset: u32, buf: &mut [u8]) -> Answer
+// How far a transfer with a buffer of len bytes reaches; the blocks of the file go to the front of list.
+fn reach_of(
+    image: &[u8],
+    handle: u32,
+    offset: u32,
+    len: usize,
+    list: &mut [u32; FILE_BLOCKS],
+) -> Reach
     requires { ⌜ check 512 (now image) ≡ consistent ⌝ }
-    ensures { λ r. ⌜ (answerTold r ≡ transferView 512 (view 512 (now (image .entry))) handle offset (length (now (buf .entry)))) × (now (buf .exit) ≡ cond (granted (transferView 512 (view 512 (now (image .entry))) handle offset (length (now (buf .entry))))) (readBuffer 512 (view 512 (now (image .entry))) (now (image .entry)) (slotWith 512 (view 512 (now (image .entry))) handle) offset (now (buf .entry))) (now (buf .entry))) × AnswerFits r ⌝ }
+    ensures { λ r. ⌜ (reachTold r ≡ transferView 512 (view 512 (now (image .entry))) handle offset len) × Reaches (now (image .entry)) handle offset len (now (list .exit)) r ⌝ }
 {
-    let s = find_handle(&image[1024..1536], handle);
-    if 25 <= s {
-        return Answer::Refused(14);
+    let s = slot_with(image, handle);
+    if SLOTS <= s {
+        return Reach::Refused(14);
     }
     let b = handle as usize;
     let size = file_size(image, b);
     if size < offset {
-        return Answer::Refused(15);
+        return Reach::Refused(15);
     }
-    let count = count_of(buf.len(), size, offset);
-    let mut list = [0u32; 128];
-    let k = file_blocks(image, b, &mut list);
-    read_runs(image, &list[1..k], offset as usize, buf, count);
-    Answer::Granted(count as u32)
+    let count = count_of(len, size, offset);
+    let k = file_blocks(image, b, list);
+    Reach::Bytes(count as u32, k)
 }
 
 // Reads from the file's offset on into the buffer; the rest of the buffer stays.
-pub fn read(image: &[u8], handle: u32, offset: u32, buf: &mut [u8]) -> Answer
-    ensures { λ r. ⌜ (answerTold r ≡ rules.read 512 (now (image .entry)) handle offset (now (buf .entry)) .answer) × (now (buf .exit) ≡ rules.read 512 (now (image .entry)) handle offset (now (buf .entry)) .buffer) × AnswerFits r ⌝ }
-{
-    match tfs_check::check(image) {
-        Checked::Refused(f) => Answer::Inconsistent(f),
-        Checked::Consistent => read_sound(image, handle, offset, buf),
-    }
-}
-
-// Writes on a consistent volume.
-fn write_sound(image: &mut [u8], handle: u32, offset: u32, buf: &[u8]) -> Answer
+pub fn read_step(image: &[u8], handle: u32, offset: u32, buf: &mut [u8]) -> Step
     requires { ⌜ check 512 (now image) ≡ consistent ⌝ }
-    ensures { λ r. ⌜ (answerTold r ≡ transferView 512 (view 512 (now (image .entry))) handle offset (length (now (buf .entry)))) × (now (image .exit) ≡ cond (granted (transferView 512 (view 512 (now (image .entry))) handle offset (length (now (buf .entry))))) (writeImage 512 (view 512 (now (image .entry))) (now (image .entry)) (slotWith 512 (view 512 (now (image .entry))) handle) offset (now (buf .entry))) (now (image .entry))) × AnswerFits r ⌝ }
+    ensures { λ r. ⌜ (stepTold r ≡ readStep 512 (now (image .entry)) handle offset (now (buf .entry)) .answer) × (now (buf .exit) ≡ readStep 512 (now (image .entry)) handle offset (now (buf .entry)) .buffer) × StepFits r ⌝ }
 {
-    let s = find_handle(&image[1024..1536], handle);
-    if 25 <= s {
-        return Answer::Refused(14);
+    let mut list = [0u32; FILE_BLOCKS];
+    match reach_of(image, handle, offset, buf.len(), &mut list) {
+        Reach::Refused(n) => Step::Refused(n),
+        Reach::Bytes(count, k) => {
+            let bytes = count as usize;
+            read_runs(image, &list[1..k], offset as usize, buf, bytes);
+            Step::Granted(count)
+        }
     }
-    let b = handle as usize;
-    let end = file_size(image, b);
-    if end < offset {
-        return Answer::Refused(15);
-    }
-    let moved = count_of(buf.len(), end, offset);
-    let mut list = [0u32; 128];
-    let k = file_blocks(image, b, &mut list);
-    write_runs(image, &list[1..k], offset as usize, buf, moved);
-    Answer::Granted(moved as u32)
 }
 
 // Writes the buffer into the file from the offset on, as far as the file reaches.
-pub fn write(image: &mut [u8], handle: u32, offset: u32, buf: &[u8]) -> Answer
-    ensures { λ r. ⌜ (answerTold r ≡ rules.write 512 (now (image .entry)) handle offset (now (buf .entry)) .answer) × (now (image .exit) ≡ rules.write 512 (now (image .entry)) handle offset (now (buf .entry)) .image) × AnswerFits r ⌝ }
+pub fn write_step(image: &mut [u8], handle: u32, offset: u32, buf: &[u8]) -> Step
+    requires { ⌜ check 512 (now image) ≡ consistent ⌝ }
+    ensures { λ r. ⌜ (stepTold r ≡ writeStep 512 (now (image .entry)) handle offset (now (buf .entry)) .answer) × (now (image .exit) ≡ writeStep 512 (now (image .entry)) handle offset (now (buf .entry)) .image) × StepFits r ⌝ }
 {
-    match tfs_check::check(image) {
-        Checked::Refused(f) => Answer::Inconsistent(f),
-        Checked::Consistent => write_sound(image, handle, offset, buf),
+    let mut list = [0u32; FILE_BLOCKS];
+    match reach_of(image, handle, offset, buf.len(), &mut list) {
+        Reach::Refused(n) => Step::Refused(n),
+        Reach::Bytes(moved, k) => {
+            let bytes = moved as usize;
+            write_runs(image, &list[1..k], offset as usize, buf, bytes);
+            Step::Granted(moved)
+        }
     }
 }

@@ -1,10 +1,10 @@
 // Shows the main job: a volume is formatted, a file created, written and read back; then one byte of the map is damaged,
 // and the volume is refused with the fault and its place.
 use libc::STDOUT_FILENO;
-use tfs_answers::Answer;
-use tfs_answers::Done;
-use tfs_check::Checked;
-use tfs_check::Fault;
+use tfs::Answer;
+use tfs::CheckAnswer;
+use tfs::Done;
+use tfs::Fault;
 
 fn text(words: &[u8]) {
     io::write_all(STDOUT_FILENO, words);
@@ -61,11 +61,11 @@ fn answer(what: &[u8], a: Answer) {
     text(b"\n");
 }
 
-fn checked(c: Checked) {
+fn checked(c: CheckAnswer) {
     text(b"check: ");
     match c {
-        Checked::Consistent => text(b"consistent"),
-        Checked::Refused(f) => fault(f),
+        CheckAnswer::Consistent => text(b"consistent"),
+        CheckAnswer::Refused(f) => fault(f),
     }
     text(b"\n");
 }
@@ -74,43 +74,43 @@ fn checked(c: Checked) {
 fn use_file(image: &mut [u8; 65536], handle: u32) {
     answer(
         b"write 5 bytes at 10: ",
-        tfs_transfer::write(image, handle, 10, b"hello"),
+        tfs::write(image, handle, 10, b"hello"),
     );
     let mut back = [0u8; 5];
     answer(
         b"read 5 bytes at 10: ",
-        tfs_transfer::read(image, handle, 10, &mut back),
+        tfs::read(image, handle, 10, &mut back),
     );
     text(b"read back: ");
     text(&back);
     text(b"\n");
     answer(
         b"write at the end: ",
-        tfs_transfer::write(image, handle, 1000, b"hello"),
+        tfs::write(image, handle, 1000, b"hello"),
     );
     answer(
         b"write past the end: ",
-        tfs_transfer::write(image, handle, 1001, b"hello"),
+        tfs::write(image, handle, 1001, b"hello"),
     );
-    answer(b"free bytes: ", tfs_look::free_bytes(image));
-    checked(tfs_check::check(image));
+    answer(b"free bytes: ", tfs::free_bytes(image));
+    checked(tfs::check(image));
 }
 
 fn damage(image: &mut [u8; 65536]) {
     text(b"one byte of the map is damaged\n");
     image[515] = 7;
-    checked(tfs_check::check(image));
-    answer(b"open TIMING: ", tfs_look::open(image, b"TIMING"));
+    checked(tfs::check(image));
+    answer(b"open TIMING: ", tfs::open(image, b"TIMING"));
 }
 
 fn main() {
     let mut image = io::large_buffer();
-    done(b"format PUMP: ", tfs_change::format(&mut image, b"PUMP"));
+    done(b"format PUMP: ", tfs::format(&mut image, b"PUMP"));
     answer(
         b"create TIMING, 1000 bytes: handle ",
-        tfs_change::create(&mut image, b"TIMING", 1000),
+        tfs::create(&mut image, b"TIMING", 1000),
     );
-    answer(b"open TIMING: handle ", tfs_look::open(&image, b"TIMING"));
+    answer(b"open TIMING: handle ", tfs::open(&image, b"TIMING"));
     use_file(&mut image, 3);
     damage(&mut image);
 }

@@ -9,14 +9,14 @@ use Rattle.list_laws.specs.Least.{least-le}
 use Rattle.tfs_spec.specs.Layout.{blocks}
 use Rattle.tfs_spec.specs.View.{view}
 use Rattle.tfs_spec.specs.Check.{badSlot, badInode, check}
-use Rattle.tfs_tally.specs.Files.{Formed}
+use Rattle.tfs_check.specs.Files.{Formed}
 use Rattle.tfs_check.specs.Order.{blocksVerdict, inOrder, check-is, slots-at}
 use borrow.Author.Needs.{needs}
 use Rattle.tfs_check.proofs.check.Statement.{statement}
 use Rattle.tfs_check.proofs.check.Tie as tie
 
 returns : tie.Need-returns
-returns c = (rw (check-is (now (c .before .before .args .image)), lt-ltb _ _ (c .if1 .taken)), omega arith)
+returns c = (rw (check-is (now (c .before .before .args .image)), lt-ltb _ _ (c .if1 .taken)), (omega arith, omega arith, λ h. omega arith))
 
 returns-2 : tie.Need-returns-2
 returns-2 c =
@@ -39,11 +39,11 @@ headed c =
 -- what the search through the slots found
 slot : (c : tie.After-first-bad-slot) → c .first-bad-slot .result ≡ least (badSlot (view 512 (now (c .before .before .before .before .before .before .before .before .before .args .image)))) 25
 slot c =
-    c .first-bad-slot .ensures
+    rw (c .before .dir-of .ensures .0) at (c .first-bad-slot .ensures)
     ∙ slots-at (now (c .before .before .before .before .before .before .before .before .before .args .image)) (c .before .before .blocks2 .result) (c .before .before .blocks2 .ensures .0)
 
 returns-4 : tie.Need-returns-4
-returns-4 c = (rw (headed (c .before .before .before .before), ← slot (c .before), lt-ltb _ _ (c .if4 .taken)), omega arith)
+returns-4 c = (rw (headed (c .before .before .before .before), ← slot (c .before), lt-ltb _ _ (c .if4 .taken)), (omega arith, omega arith, λ h. omega arith))
 
 -- no slot is bad
 formed : (c : tie.Else4) → Formed (now (c .before .before .before .before .before .before .before .before .before .before .args .image))
@@ -54,7 +54,7 @@ formed c =
 returns-5 : tie.Need-returns-5
 returns-5 c =
     let past = c .before .before in
-    (rw (headed (past .before .before .before .before), ← slot (past .before), le-ltb _ _ (past .if4 .left), ← c .before .first-bad-inode .ensures, lt-ltb _ _ (c .if5 .taken)), omega arith)
+    (rw (headed (past .before .before .before .before), ← slot (past .before), le-ltb _ _ (past .if4 .left), ← c .before .first-bad-inode .ensures, lt-ltb _ _ (c .if5 .taken)), (omega arith, omega arith, λ h. omega arith))
 
 check-blocks-requires : tie.Need-check-blocks-requires
 check-blocks-requires c κs =
@@ -86,9 +86,7 @@ check-spec =
     (λ c κs. search needs)
     returns-3
     (λ c κs. search needs)
-    (λ c. search needs)
-    (λ c. search needs)
-    (λ c. search needs)
+    (λ c κs. search needs)
     (λ c κs. search needs)
     (λ c. search needs)
     returns-4

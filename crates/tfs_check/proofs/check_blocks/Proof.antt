@@ -21,18 +21,18 @@ bit : (c : tie.After-first-difference) → c .first-difference .result ≡ least
 bit c =
     let claimed = c .before .before .before .before in
     let start = claimed .before .before .before in
-    rw (claimed .claim-files .ensures .0) at (c .first-difference .ensures)
+    rw (claimed .claim-files .ensures .0, c .before .before .map-of .ensures .0) at (c .first-difference .ensures)
     ∙ bits-at (now (start .args .image)) (start .pre .0) (start .args .n) (start .pre .1)
 
 returns : tie.Need-returns
 unfolding blocksVerdict
-returns c = (rw (← twice (c .before), lt-ltb _ _ (c .if1 .taken)), omega arith)
+returns c = (rw (← twice (c .before), lt-ltb _ _ (c .if1 .taken)), (omega arith, omega arith, λ h. omega arith))
 
 returns-2 : tie.Need-returns-2
 unfolding blocksVerdict
 returns-2 c =
     let past = c .before .before .before .before in
-    (rw (← twice (past .before), le-ltb _ _ (past .if1 .left), ← bit (c .before), lt-ltb _ _ (c .if2 .taken)), omega arith)
+    (rw (← twice (past .before), le-ltb _ _ (past .if1 .left), ← bit (c .before), lt-ltb _ _ (c .if2 .taken)), (omega arith, omega arith, λ h. omega arith))
 
 returns-3 : tie.Need-returns-3
 unfolding blocksVerdict
@@ -48,9 +48,7 @@ check-blocks-spec =
     (λ c κs. search needs)
     (λ c. search needs)
     returns
-    (λ c. search needs)
-    (λ c. search needs)
-    (λ c. search needs)
+    (λ c κs. search needs)
     (λ c κs. search needs)
     (λ c. search needs)
     returns-2

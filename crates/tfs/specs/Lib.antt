@@ -1,0 +1,4 @@
+pub mod Told
+pub mod Passed
+pub mod Format
+pub mod List

@@ -1,0 +1,163 @@
+// TFS: files in an image that the caller holds. Every request but format runs the check first, and gives its fault where the volume is not consistent.
+mod answers; // answers.rt: the answers made of what the crates below give
+mod look; // look.rt: list and free bytes on a consistent volume
+
+ghost use mathlib.Core.Path.{_≡_};
+ghost use Rattle.tfs_spec.specs.Check.{check};
+ghost use Rattle.tfs_spec.specs.Requests.{format, openAnswer, create, remove, read, write, listAnswer, freeAnswer};
+ghost use Rattle.tfs.specs.Told.{checkTold, CheckFits, answerTold, AnswerFits, doneTold, DoneFits, listingTold, listedName, EntryFits};
+use crate::answers::answer_of;
+use crate::answers::done_of;
+use crate::answers::fault_of;
+use crate::look::free_step;
+use crate::look::list_step;
+use tfs_change::create_step;
+use tfs_change::open_step;
+use tfs_change::remove_step;
+use tfs_check::Verdict;
+use tfs_dir::names::label_allowed;
+use tfs_layout::LOW_END;
+use tfs_steps::format::format_blocks;
+use tfs_transfer::read_step;
+use tfs_transfer::write_step;
+
+// What is wrong with a volume: the number of the first broken rule, and the lowest slot or block that breaks it.
+pub enum Fault {
+    // rules 1 to 3, the header
+    Header(u32),
+    // rules 4 and 5
+    Slot(u32, u32),
+    // rules 6 and 7
+    Block(u32, u32),
+}
+
+// What check answers.
+pub enum CheckAnswer {
+    Consistent,
+    Refused(Fault),
+}
+
+// What open, create, read, write and free bytes answer: granted with a number, refused by its number, or an inconsistent volume with its fault.
+pub enum Answer {
+    Granted(u32),
+    Refused(u32),
+    Inconsistent(Fault),
+}
+
+// What format and remove answer, which have no result.
+pub enum Done {
+    Granted,
+    Refused(u32),
+    Inconsistent(Fault),
+}
+
+// What list answers of a slot: free, or a file with its name's length, inode number and size.
+pub enum EntryAnswer {
+    Free,
+    File(u32, u32, u32),
+    Refused(u32),
+    Inconsistent(Fault),
+}
+
+// That answer and, for a file, its name padded with zeros. (An enum holds no array.)
+pub struct Listing {
+    pub entry: EntryAnswer,
+    pub name: [u8; 16],
+}
+
+// An empty volume with this label, whatever the image held.
+pub fn format(image: &mut [u8], label: &[u8]) -> Done
+    ensures { λ r. ⌜ (doneTold r ≡ format 512 (now (image .entry)) (now (label .entry)) .answer) × (now (image .exit) ≡ format 512 (now (image .entry)) (now (label .entry)) .image) × DoneFits r ⌝ }
+{
+    if image.len() < LOW_END {
+        return Done::Inconsistent(Fault::Header(1));
+    }
+    if !label_allowed(label) {
+        return Done::Refused(8);
+    }
+    format_blocks(image, label);
+    Done::Granted
+}
+
+// The first broken rule of the volume, at its lowest place.
+pub fn check(image: &[u8]) -> CheckAnswer
+    ensures { λ r. ⌜ (checkTold r ≡ check 512 (now (image .entry))) × CheckFits r ⌝ }
+{
+    match tfs_check::check(image) {
+        Verdict::Consistent => CheckAnswer::Consistent,
+        Verdict::Broken(rule, place) => CheckAnswer::Refused(fault_of(rule, place)),
+    }
+}
+
+// The handle of the file with this name.
+pub fn open(image: &[u8], name: &[u8]) -> Answer
+    ensures { λ r. ⌜ (answerTold r ≡ openAnswer 512 (now (image .entry)) (now (name .entry))) × AnswerFits r ⌝ }
+{
+    match check(image) {
+        CheckAnswer::Refused(f) => Answer::Inconsistent(f),
+        CheckAnswer::Consistent => answer_of(open_step(image, name)),
+    }
+}
+
+// A file of this name and size, all zeros; granted with its handle.
+pub fn create(image: &mut [u8], name: &[u8], size: u32) -> Answer
+    ensures { λ r. ⌜ (answerTold r ≡ create 512 (now (image .entry)) (now (name .entry)) size .answer) × (now (image .exit) ≡ create 512 (now (image .entry)) (now (name .entry)) size .image) × AnswerFits r ⌝ }
+{
+    match check(image) {
+        CheckAnswer::Refused(f) => Answer::Inconsistent(f),
+        CheckAnswer::Consistent => answer_of(create_step(image, name, size)),
+    }
+}
+
+// Removes the file of this name: its blocks are free, its slot is zero.
+pub fn remove(image: &mut [u8], name: &[u8]) -> Done
+    ensures { λ r. ⌜ (doneTold r ≡ remove 512 (now (image .entry)) (now (name .entry)) .answer) × (now (image .exit) ≡ remove 512 (now (image .entry)) (now (name .entry)) .image) × DoneFits r ⌝ }
+{
+    match check(image) {
+        CheckAnswer::Refused(f) => Done::Inconsistent(f),
+        CheckAnswer::Consistent => done_of(remove_step(image, name)),
+    }
+}
+
+// Reads from the file's offset on into the buffer, granted with the count; the rest of the buffer stays.
+pub fn read(image: &[u8], handle: u32, offset: u32, buf: &mut [u8]) -> Answer
+    ensures { λ r. ⌜ (answerTold r ≡ read 512 (now (image .entry)) handle offset (now (buf .entry)) .answer) × (now (buf .exit) ≡ read 512 (now (image .entry)) handle offset (now (buf .entry)) .buffer) × AnswerFits r ⌝ }
+{
+    match check(image) {
+        CheckAnswer::Refused(f) => Answer::Inconsistent(f),
+        CheckAnswer::Consistent => answer_of(read_step(image, handle, offset, buf)),
+    }
+}
+
+// Writes the buffer into the file from the offset on, as far as the file reaches; granted with the count.
+pub fn write(image: &mut [u8], handle: u32, offset: u32, buf: &[u8]) -> Answer
+    ensures { λ r. ⌜ (answerTold r ≡ write 512 (now (image .entry)) handle offset (now (buf .entry)) .answer) × (now (image .exit) ≡ write 512 (now (image .entry)) handle offset (now (buf .entry)) .image) × AnswerFits r ⌝ }
+{
+    match check(image) {
+        CheckAnswer::Refused(f) => Answer::Inconsistent(f),
+        CheckAnswer::Consistent => answer_of(write_step(image, handle, offset, buf)),
+    }
+}
+
+// What stands in a slot.
+pub fn list(image: &[u8], slot: u32) -> Listing
+    ensures { λ r. ⌜ (listingTold r ≡ listAnswer 512 (now (image .entry)) slot) × (r .name ≡ listedName (listAnswer 512 (now (image .entry)) slot)) × EntryFits (r .entry) ⌝ }
+{
+    match check(image) {
+        CheckAnswer::Refused(f) => Listing {
+            entry: EntryAnswer::Inconsistent(f),
+            name: [0u8; 16],
+        },
+        CheckAnswer::Consistent => list_step(image, slot),
+    }
+}
+
+// The bytes of all free blocks.
+pub fn free_bytes(image: &[u8]) -> Answer
+    ensures { λ r. ⌜ (answerTold r ≡ freeAnswer 512 (now (image .entry))) × AnswerFits r ⌝ }
+{
+    match check(image) {
+        CheckAnswer::Refused(f) => Answer::Inconsistent(f),
+        CheckAnswer::Consistent => answer_of(free_step(image)),
+    }
+}

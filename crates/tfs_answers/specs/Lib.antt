@@ -1,3 +1,0 @@
-pub mod Told
-pub mod Passed
-pub mod Ready

@@ -1,0 +1,142 @@
+-- What a passed check says of the parts that the code reads and writes.
+use mathlib.Core.Path.{_≡_, sym, ap, _∙_, subst}
+use mathlib.Core.Logic.{⊎-elim}
+use Prim.Native.Nat.{ℕ, zero, suc, _+_, _-_, _*_, _/_, _≤_, _<_}
+use mathlib.Core.List.{List, [], _++_}
+use native.Mathlib.Omega.{arith}
+use native.Mathlib.Nat.{zero-add}
+use lib.ListN.{length, getD, take, drop}
+use lib.Dec.{T-not}
+use lib.Seq.{take-at}
+use Rattle.list_laws.specs.Test.{cond-no}
+use Rattle.lists.specs.Lists.{table, storeAt}
+use Rattle.list_laws.specs.Table.{length-table, getD-table, table-cong}
+use Rattle.tfs_spec.specs.Layout.{need, blocks, block, inodeSize, inodeNumber}
+use Rattle.tfs_spec.specs.View.{View, view, free, inode, size, number, place}
+use Rattle.tfs_spec.specs.Check.{consistent, check, fileClaims}
+use Rattle.tfs_spec.specs.Consistent.{File, Consistent}
+use Rattle.tfs_spec.specs.Consistent as rules
+use Rattle.tfs_facts.specs.CheckMeans.{check-means, used-inode, need-le}
+use Rattle.tfs_facts.specs.Sizes.{in-image, in-need, size-512}
+use Rattle.tfs_facts.specs.Views.{view-n, inode-block}
+use Rattle.tfs_map.specs.Under.{Under}
+use Rattle.tfs_inode.specs.Claims.{claimList, file-claims}
+use Rattle.tfs_runs.specs.Place.{at, Inside, at-place}
+use Rattle.tfs_runs.specs.Write.{store-cong}
+
+-- the content blocks that an inode lists
+unfoldable pub contentList : List ℕ → List ℕ
+contentList ino = table (inodeNumber ino) 0 (need 512 (inodeSize ino))
+
+-- the blocks of a file without the inode's own, cut out of the array that holds them
+pub content-cut : (b : ℕ) (ino rest : List ℕ) (k : ℕ) → k ≡ 1 + need 512 (inodeSize ino) → take (k - 1) (drop 1 (claimList b ino ++ rest)) ≡ contentList ino
+unfolding claimList contentList
+content-cut b ino rest k e =
+    take-at (table (inodeNumber ino) 0 (need 512 (inodeSize ino))) rest (k - 1) (length-table (inodeNumber ino) 0 (need 512 (inodeSize ino)) ∙ omega arith)
+
+module _ (img : List ℕ) (passed : check 512 img ≡ consistent) where
+  abbrev v : View
+  v = view 512 img
+
+  ok : Consistent 512 img
+  ok = check-means 512 size-512 img .0 passed
+
+  pub long : 1536 ≤ length img
+  long = ok .long
+
+  pub blocks-high : blocks 512 img ≤ 4096
+  unfolding blocks
+  blocks-high = omega arith
+
+  -- ---- the file in slot s
+  module _ (s : ℕ) (f : File 512 v s) where
+    pub inode-inside : rules.Inside v (inode v s)
+    inode-inside =
+        ⊎-elim (λ t. absurd (T-not (free v s) (f .taken) t)) (λ t. used-inode v s t) (ok .sound .formed s (f .slot))
+
+    abbrev b : ℕ
+    b = inode v s
+
+    abbrev ino : List ℕ
+    ino = block 512 img b
+
+    below : inode v s < blocks 512 img
+    below = subst (λ (n : ℕ). inode v s < n) (view-n 512 img) (inode-inside .high)
+
+    pub inode-small : inode v s < 4096
+    inode-small = omega (arith, below, blocks-high)
+
+    pub inode-in : inode v s * 512 + 512 ≤ length img
+    inode-in = in-image 512 (inode v s) img below
+
+    ino-is : getD (v .inodes) s [] ≡ block 512 img (inode v s)
+    ino-is = inode-block 512 img s (f .slot) inode-inside
+
+    pub size-is : size v s ≡ inodeSize (block 512 img (inode v s))
+    unfolding size
+    size-is = ap inodeSize ino-is
+
+    pub size-small : size v s ≤ 65024
+    size-small = ok .sound .small s f
+
+    pub need-few : need 512 (inodeSize (block 512 img (inode v s))) ≤ 127
+    need-few = need-le 512 (inodeSize (block 512 img (inode v s))) 127 (omega arith) (omega (arith, size-is, size-small))
+
+    pub claims-are : fileClaims 512 v s ≡ claimList (inode v s) (block 512 img (inode v s))
+    claims-are =
+        file-claims v s
+        ∙ cond-no {X = List ℕ} (free v s) [] (claimList (inode v s) (getD (v .inodes) s [])) (f .taken)
+        ∙ ap (claimList (inode v s)) ino-is
+
+    -- number k of the inode
+    pub number-is : (k : ℕ) → number v s k ≡ inodeNumber (block 512 img (inode v s)) k
+    unfolding number
+    number-is k = ap (λ (x : List ℕ). inodeNumber x k) ino-is
+
+    needed : need 512 (size v s) ≡ need 512 (inodeSize (block 512 img (inode v s)))
+    needed = ap (need 512) size-is
+
+    pub listed : (k : ℕ) → k < need 512 (size v s) → getD (contentList (block 512 img (inode v s))) k 0 ≡ number v s k
+    unfolding contentList
+    listed k h =
+        getD-table (inodeNumber ino) 0 (need 512 (inodeSize ino)) k 0 (omega (arith, needed))
+        ∙ ap (inodeNumber ino) (zero-add k)
+        ∙ sym (number-is k)
+
+    pub length-content-list : length (contentList (block 512 img (inode v s))) ≡ need 512 (inodeSize (block 512 img (inode v s)))
+    unfolding contentList
+    length-content-list = length-table (inodeNumber ino) 0 (need 512 (inodeSize ino))
+
+    pub content-inside : Inside (contentList (block 512 img (inode v s))) (length img)
+    content-inside i h =
+        let k : i < need 512 (size v s) = omega (arith, length-content-list, needed) in
+        let c : rules.Inside v (number v s i) = ok .sound .inside s i f k in
+        omega (arith, listed i k, in-image 512 (number v s i) img (subst (λ (n : ℕ). number v s i < n) (view-n 512 img) (c .high)))
+
+    pub claims-under : Under 4096 (claimList (inode v s) (block 512 img (inode v s)))
+    unfolding claimList
+    claims-under zero h = inode-small
+    claims-under (suc i) h =
+        let l : i < need 512 (inodeSize ino) = omega (arith, length-table (inodeNumber ino) 0 (need 512 (inodeSize ino))) in
+        let k : i < need 512 (size v s) = omega (arith, needed) in
+        let c : rules.Inside v (number v s i) = ok .sound .inside s i f k in
+        let e : getD (table (inodeNumber ino) 0 (need 512 (inodeSize ino))) i 0 ≡ number v s i =
+        getD-table (inodeNumber ino) 0 (need 512 (inodeSize ino)) i 0 l ∙ ap (inodeNumber ino) (zero-add i) ∙ sym (number-is i)
+        in
+        omega (arith, c .high, view-n 512 img, blocks-high)
+
+    -- the bytes of the file lie where the list says
+    pub place-is : (p : ℕ) → p < size v s → at (contentList (block 512 img (inode v s))) p ≡ place 512 v s p
+    place-is p h = at-place v s (contentList ino) p (listed (p / 512) (in-need 512 (omega arith) p (size v s) h))
+
+    pub read-is : (o c : ℕ) → o + c ≤ size v s → table (λ p. getD img (at (contentList (block 512 img (inode v s))) p) 0) o c ≡ table (λ p. getD img (place 512 v s p) 0) o c
+    read-is o c h =
+        table-cong (λ p. getD img (at (contentList ino) p) 0) (λ p. getD img (place 512 v s p) 0) o c (λ p a l. ap (λ (q : ℕ). getD img q 0) (place-is p (omega arith)))
+
+    pub write-is : (o : ℕ) (bs : List ℕ) → o + length bs ≤ size v s → storeAt (at (contentList (block 512 img (inode v s)))) img o bs ≡ storeAt (place 512 v s) img o bs
+    write-is o bs h = store-cong (at (contentList ino)) (place 512 v s) img o bs (λ p a l. place-is p (omega arith))
+
+    -- a transfer within the size is within the listed blocks
+    pub within : (o c : ℕ) → o + c ≤ size v s → o + c ≤ 512 * length (contentList (block 512 img (inode v s)))
+    unfolding need
+    within o c h = omega (arith, length-content-list, size-is)

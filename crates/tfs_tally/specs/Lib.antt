@@ -1,3 +1,0 @@
-pub mod Files
-pub mod Claimed
-pub mod Owned
