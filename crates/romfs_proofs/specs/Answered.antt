@@ -150,6 +150,7 @@ module _ (s : List ℕ) (p : ℕ) where
   granted-part n e = rw e
 
   content-granted : (n : ℕ) → contentLength s p ≡ granted n → ContentIs s p n
+  unfolding part
   content-granted n e =
       let c : Content s p n = content-in s p n e in
       let z : ZeroAfter s (p + 16) (nameLength s (p + 16)) = reached-name s (c .sound) p (c .reached) in

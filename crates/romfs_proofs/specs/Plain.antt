@@ -118,6 +118,7 @@ module _ (s : List ℕ) (p n : ℕ) (z : ZeroAfter s (p + 16) n) where
   name-is = rw (length-is s (p + 16) n z)
 
   pub header-is : HeaderIs s p n
+  unfolding part
   header-is = record {
     fileType = type-is s p;
     executable = executable-is s p;

@@ -1,4 +1,4 @@
--- The reached headers and the accepted images, with no walk in them.
+-- Reached headers and accepted images by the check's own tests, for the proofs; romfs_spec has them in plain facts.
 use Prim.Native.Nat.{ℕ, suc}
 use mathlib.Core.Path.{_≡_}
 use mathlib.Core.Logic.{_≢_}

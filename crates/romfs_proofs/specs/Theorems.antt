@@ -1,4 +1,4 @@
--- What the check says: it accepts exactly the accepted images, and each refusal is given exactly when the rules say.
+-- What the check says, over its own tests: it accepts exactly the accepted images, and each refusal is given exactly when the tests say.
 use Prim.Native.Nat.{ℕ, zero, suc, _-_, _≤_, _<_}
 use mathlib.Core.Path.{_≡_, refl, sym, ap, subst, _∙_}
 use mathlib.Core.Logic.{_≢_, _⊎_, inl, inr, ⊎-elim, _↔_}

@@ -83,7 +83,7 @@ dataAt p n = p + 16 + pad16 (n + 1)
 abbrev pub endAt : List ℕ → ℕ → ℕ → ℕ
 endAt s p n = dataAt p n + pad16 (sizeAt s p)
 
--- its name is l
+-- the name of the header at p is l
 pub record Named (s : List ℕ) (p : ℕ) (l : List ℕ) : Type 0 where
   pub same : (i : ℕ) → i < length l → getD s (p + 16 + i) 0 ≡ getD l i 0
   pub ends : ZeroAfter s (p + 16) (length l)

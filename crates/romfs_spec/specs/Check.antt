@@ -86,24 +86,20 @@ andThen (broken n p) v = broken n p
 -- A list visits its entries, from p on. The number is fuel; the bytes from p up to the list's bound are enough of it.
 unfoldable pub visitList : List ℕ → (ℕ → Verdict) → ℕ → ℕ → Verdict
 visitList s entry zero p = accepted
-visitList s entry (suc fuel) p =
-    let rest : Verdict = visitList s entry fuel (next s p) in
-    let after : Verdict = cond (eqb (next s p) 0) accepted rest in
-    andThen (entry p) after
+visitList s entry (suc fuel) p = andThen (entry p) (cond (eqb (next s p) 0) accepted (visitList s entry fuel (next s p)))
 
 -- The walk visits an entry, its list, then next. left is how many lists may be below this one; the root is depth 1, the deepest list 8.
 unfoldable pub visitEntry : List ℕ → (ℕ → ℕ → ℕ → Verdict) → ℕ → ℕ → ℕ → Verdict
 visitEntry s test zero bound p = test bound 8 p
 visitEntry s test (suc left) bound p =
-    let list : Verdict = visitList s (visitEntry s test left (own s bound p)) (own s bound p - info s p) (info s p) in
-    let below : Verdict = cond (hasList s p) list accepted in
-    andThen (test bound (7 - left) p) below
+    andThen (test bound (7 - left) p)
+    (cond (hasList s p) (visitList s (visitEntry s test left (own s bound p)) (own s bound p - info s p) (info s p)) accepted)
 
 -- the whole image, each entry tested with its bound, its depth and its offset
 unfoldable pub visitAll : List ℕ → (ℕ → ℕ → ℕ → Verdict) → Verdict
 visitAll s test =
-    let list : Verdict = visitList s (visitEntry s test 7 (fullSize s)) (fullSize s - firstRoot s) (firstRoot s) in
-    cond (eqb (firstRoot s) (fullSize s)) accepted list
+    cond (eqb (firstRoot s) (fullSize s)) accepted
+    (visitList s (visitEntry s test 7 (fullSize s)) (fullSize s - firstRoot s) (firstRoot s))
 
 unfoldable pub walk : List ℕ → Verdict
 walk s = visitAll s (fault s)
@@ -121,15 +117,10 @@ towards s want p =
 -- Whether want is a reached header, by going down one path. The number is fuel.
 unfoldable pub seek : List ℕ → ℕ → ℕ → ℕ → Bool
 seek s want zero p = false
-seek s want (suc fuel) p =
-    let there : Bool = seek s want fuel (towards s want p) in
-    let on : Bool = cond (eqb (towards s want p) 0) false there in
-    cond (eqb want p) true on
+seek s want (suc fuel) p = cond (eqb want p) true (cond (eqb (towards s want p) 0) false (seek s want fuel (towards s want p)))
 
 unfoldable pub isReached : List ℕ → ℕ → Bool
-isReached s want =
-    let found : Bool = seek s want (fullSize s) (firstRoot s) in
-    cond (eqb (firstRoot s) (fullSize s)) false found
+isReached s want = cond (eqb (firstRoot s) (fullSize s)) false (seek s want (fullSize s) (firstRoot s))
 
 -- 29: a hard link's spec.info is not a reached header of another type than 0, or that of a directory named "." or ".." is not a reached header
 unfoldable pub badLink : List ℕ → ℕ → Bool
@@ -153,8 +144,4 @@ volume s =
     (cond (badVolumeName s) (broken 25 0) accepted))))
 
 unfoldable pub check : List ℕ → Verdict
-check s =
-    let l : Verdict = links s in
-    let w : Verdict = walk s in
-    let wl : Verdict = andThen w l in
-    andThen (volume s) wl
+check s = andThen (volume s) (andThen (walk s) (links s))

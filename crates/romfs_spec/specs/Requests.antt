@@ -25,15 +25,10 @@ firstOf s dir = cond (eqb dir 0) (cond (eqb (firstRoot s) (fullSize s)) 0 (first
 -- the first match from p on along next, or 0; the number is fuel
 unfoldable pub matchFrom : List ℕ → List ℕ → ℕ → ℕ → ℕ
 matchFrom s want zero p = 0
-matchFrom s want (suc fuel) p =
-    let rest : ℕ = matchFrom s want fuel (next s p) in
-    let on : ℕ = cond (eqb (next s p) 0) 0 rest in
-    cond (sameList (name s p) want) p on
+matchFrom s want (suc fuel) p = cond (sameList (name s p) want) p (cond (eqb (next s p) 0) 0 (matchFrom s want fuel (next s p)))
 
 unfoldable pub matchIn : List ℕ → List ℕ → ℕ → ℕ
-matchIn s want first =
-    let at : ℕ = matchFrom s want (fullSize s) first in
-    cond (eqb first 0) 0 at
+matchIn s want first = cond (eqb first 0) 0 (matchFrom s want (fullSize s) first)
 
 unfoldable pub isDirectory : List ℕ → ℕ → Bool
 isDirectory s dir = eqb dir 0 || (isReached s dir && eqb (fileType s dir) 1)
@@ -42,11 +37,10 @@ isDirectory s dir = eqb dir 0 || (isReached s dir && eqb (fileType s dir) 1)
 unfoldable pub findStep : List ℕ → ℕ → List ℕ → Answer ℕ
 findStep s dir want =
     let at : ℕ = matchIn s want (firstOf s dir) in
-    let answer : Answer ℕ = cond (eqb at 0) (refused 30 0) (granted at) in
-    cond (isDirectory s dir) answer (refused 31 0)
+    cond (isDirectory s dir) (cond (eqb at 0) (refused 30 0) (granted at)) (refused 31 0)
 
 unfoldable pub find : List ℕ → ℕ → List ℕ → Answer ℕ
-find s dir want = let a : Answer ℕ = findStep s dir want in checked (check s) a
+find s dir want = checked (check s) (findStep s dir want)
 
 -- ---- entry
 pub record Entry : Type 0 where
@@ -73,7 +67,7 @@ unfoldable pub entryStep : List ℕ → ℕ → Answer Entry
 entryStep s p = cond (isReached s p) (granted (entryAt s p)) (refused 31 0)
 
 unfoldable pub entry : List ℕ → ℕ → Answer Entry
-entry s p = let a : Answer Entry = entryStep s p in checked (check s) a
+entry s p = checked (check s) (entryStep s p)
 
 -- ---- content
 -- the length; 31: not a reached header, or not type 2 or 3
@@ -81,7 +75,7 @@ unfoldable pub contentStep : List ℕ → ℕ → Answer ℕ
 contentStep s p = cond (isReached s p && hasData (fileType s p)) (granted (size s p)) (refused 31 0)
 
 unfoldable pub contentLength : List ℕ → ℕ → Answer ℕ
-contentLength s p = let a : Answer ℕ = contentStep s p in checked (check s) a
+contentLength s p = checked (check s) (contentStep s p)
 
 abbrev pub partOf : List ℕ → ℕ → Answer ℕ → List ℕ
 partOf s at (granted n) = part at n s

@@ -4,8 +4,8 @@ use mathlib.Core.Path.{_≡_}
 use mathlib.Core.Logic.{_≢_, _⊎_, _↔_}
 use mathlib.Core.Bool.{true}
 use mathlib.Core.List.{List, []}
-use lib.ListN.{length, take}
-use Rattle.lists.specs.Lists.{sum, part}
+use lib.ListN.{length, take, drop}
+use Rattle.lists.specs.Lists.{sum}
 use Rattle.romfs_spec.specs.Layout as layout
 use Rattle.romfs_spec.specs.Layout.{pad16}
 use Rattle.romfs_spec.specs.Check.{accepted, broken, check}
@@ -34,7 +34,7 @@ pub record HeaderIs (s : List ℕ) (p n : ℕ) : Type 0 where
   pub next : layout.next s p ≡ nextAt s p
   pub info : layout.info s p ≡ infoAt s p
   pub size : layout.size s p ≡ sizeAt s p
-  pub name : layout.name s p ≡ part (p + 16) n s
+  pub name : layout.name s p ≡ take n (drop (p + 16) s)
   pub contentAt : layout.contentAt s p ≡ dataAt p n
   pub endOf : layout.endOf s p ≡ endAt s p n
 
@@ -179,7 +179,7 @@ pub record ContentIs (s : List ℕ) (p n : ℕ) : Type 0 where
   pub nameLength : ℕ
   pub named : ZeroAfter s (p + 16) nameLength
   pub start : contentStart s p ≡ p + 16 + pad16 (nameLength + 1)
-  pub bytes : content s p ≡ part (contentStart s p) n s
+  pub bytes : content s p ≡ take n (drop (contentStart s p) s)
   pub long : length (content s p) ≡ n
   pub inside : contentStart s p + n ≤ full s
   pub whole : full s ≤ length s
