@@ -17,6 +17,7 @@ use tfs_change::remove_step;
 use tfs_check::Verdict;
 use tfs_dir::names::label_allowed;
 use tfs_layout::LOW_END;
+use tfs_layout::NAME;
 use tfs_steps::format::format_blocks;
 use tfs_transfer::read_step;
 use tfs_transfer::write_step;
@@ -146,7 +147,7 @@ pub fn list(image: &[u8], slot: u32) -> Listing
     match check(image) {
         CheckAnswer::Refused(f) => Listing {
             entry: EntryAnswer::Inconsistent(f),
-            name: [0u8; 16],
+            name: [0u8; NAME],
         },
         CheckAnswer::Consistent => list_step(image, slot),
     }

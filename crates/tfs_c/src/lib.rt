@@ -2,7 +2,7 @@
 ghost use mathlib.Core.Path.{_≡_};
 ghost use Rattle.tfs_spec.specs.Requests as rules;
 ghost use Rattle.tfs.specs.Told.{faultAnswer, checkTold, answerTold, doneTold, entryTold, EntryFits};
-ghost use Rattle.tfs_c.specs.Result.{resultOf, slotOf, Tells, TellsEntry, TellsFile, TellsNone};
+ghost use Rattle.tfs_c.specs.Result.{result, resultOf, emptySlot, fileSlot, slotWith, slotOf};
 use tfs::Answer;
 use tfs::CheckAnswer;
 use tfs::Done;
@@ -29,73 +29,61 @@ pub struct TfsSlot {
     pub name: [u8; 16],
 }
 
+fn granted(value: u32) -> TfsResult
+    ensures { λ r. ⌜ r ≡ result 0 0 value ⌝ }
+{
+    TfsResult {
+        refusal: 0,
+        place: 0,
+        value: value,
+    }
+}
+
+fn refused(number: u32, place: u32) -> TfsResult
+    ensures { λ r. ⌜ r ≡ result number place 0 ⌝ }
+{
+    TfsResult {
+        refusal: number,
+        place: place,
+        value: 0,
+    }
+}
+
 fn of_fault(f: Fault) -> TfsResult
-    ensures { λ r. ⌜ Tells r (faultAnswer f) ⌝ }
+    ensures { λ r. ⌜ r ≡ resultOf (faultAnswer f) ⌝ }
 {
     match f {
-        Fault::Header(n) => TfsResult {
-            refusal: n,
-            place: 0,
-            value: 0,
-        },
-        Fault::Slot(n, s) => TfsResult {
-            refusal: n,
-            place: s,
-            value: 0,
-        },
-        Fault::Block(n, b) => TfsResult {
-            refusal: n,
-            place: b,
-            value: 0,
-        },
+        Fault::Header(n) => refused(n, 0),
+        Fault::Slot(n, s) => refused(n, s),
+        Fault::Block(n, b) => refused(n, b),
     }
 }
 
 fn of_answer(a: Answer) -> TfsResult
-    ensures { λ r. ⌜ Tells r (answerTold a) ⌝ }
+    ensures { λ r. ⌜ r ≡ resultOf (answerTold a) ⌝ }
 {
     match a {
-        Answer::Granted(x) => TfsResult {
-            refusal: 0,
-            place: 0,
-            value: x,
-        },
-        Answer::Refused(n) => TfsResult {
-            refusal: n,
-            place: 0,
-            value: 0,
-        },
+        Answer::Granted(x) => granted(x),
+        Answer::Refused(n) => refused(n, 0),
         Answer::Inconsistent(f) => of_fault(f),
     }
 }
 
 fn of_done(d: Done) -> TfsResult
-    ensures { λ r. ⌜ Tells r (doneTold d) ⌝ }
+    ensures { λ r. ⌜ r ≡ resultOf (doneTold d) ⌝ }
 {
     match d {
-        Done::Granted => TfsResult {
-            refusal: 0,
-            place: 0,
-            value: 0,
-        },
-        Done::Refused(n) => TfsResult {
-            refusal: n,
-            place: 0,
-            value: 0,
-        },
+        Done::Granted => granted(0),
+        Done::Refused(n) => refused(n, 0),
         Done::Inconsistent(f) => of_fault(f),
     }
 }
 
 fn of_check(c: CheckAnswer) -> TfsResult
-    ensures { λ r. ⌜ Tells r (rules.checked (checkTold c) rules.refused rules.done) ⌝ }
+    ensures { λ r. ⌜ r ≡ resultOf (rules.checked (checkTold c) rules.refused rules.done) ⌝ }
 {
     match c {
-        CheckAnswer::Consistent => TfsResult {
-            refusal: 0,
-            place: 0,
-            value: 0,
-        },
+        CheckAnswer::Consistent => granted(0),
         CheckAnswer::Refused(f) => of_fault(f),
     }
 }
@@ -168,7 +156,7 @@ pub extern "C" fn tfs_free_bytes(image: &[u8]) -> TfsResult
 
 // A slot with no file, or the refusal of list.
 fn of_none(refusal: u32, place: u32, name: [u8; 16]) -> TfsSlot
-    ensures { λ r. ⌜ TellsNone r refusal place × (r .name ≡ name) ⌝ }
+    ensures { λ r. ⌜ r ≡ emptySlot refusal place name ⌝ }
 {
     TfsSlot {
         refusal: refusal,
@@ -183,7 +171,7 @@ fn of_none(refusal: u32, place: u32, name: [u8; 16]) -> TfsSlot
 
 // A slot with a file.
 fn of_file(len: u32, inode: u32, size: u32, name: [u8; 16]) -> TfsSlot
-    ensures { λ r. ⌜ TellsFile r len inode size × (r .name ≡ name) ⌝ }
+    ensures { λ r. ⌜ r ≡ fileSlot len inode size name ⌝ }
 {
     TfsSlot {
         refusal: 0,
@@ -198,7 +186,7 @@ fn of_file(len: u32, inode: u32, size: u32, name: [u8; 16]) -> TfsSlot
 
 fn of_entry(e: EntryAnswer, name: [u8; 16]) -> TfsSlot
     requires { ⌜ EntryFits e ⌝ }
-    ensures { λ r. ⌜ TellsEntry r (entryTold e name) × (r .name ≡ name) ⌝ }
+    ensures { λ r. ⌜ r ≡ slotWith (entryTold e name) name ⌝ }
 {
     match e {
         EntryAnswer::Free => of_none(0, 0, name),

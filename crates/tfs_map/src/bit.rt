@@ -1,6 +1,6 @@
 // One bit of the map.
 ghost use mathlib.Core.Path.{_≡_};
-ghost use Prim.Native.Nat.{_%_, _<_};
+ghost use Prim.Native.Nat.{_%_, _≤_, _<_};
 ghost use lib.ListN.{length};
 ghost use Rattle.tfs_spec.specs.Layout.{mapByte, mapBit, setBit};
 use spans::bits::bit_of;
@@ -42,12 +42,24 @@ pub fn set_bit(map: &mut [u8], b: usize)
 }
 
 // Makes bit b 0.
-pub fn clear_bit(map: &mut [u8], b: usize)
+fn clear_bit(map: &mut [u8], b: usize)
     requires { ⌜ (length (now map) ≡ 512) × (b < 4096) ⌝ }
     ensures { λ _. ⌜ now (map .exit) ≡ setBit (now (map .entry)) b 0 ⌝ }
 {
     let at = map_byte(b);
     map[at] = with_zero(map[at], map_place(b));
+}
+
+// Makes bit b 1 or 0.
+pub fn put_bit(map: &mut [u8], b: usize, v: u32)
+    requires { ⌜ (length (now map) ≡ 512) × (b < 4096) × (v ≤ 1) ⌝ }
+    ensures { λ _. ⌜ now (map .exit) ≡ setBit (now (map .entry)) b v ⌝ }
+{
+    if v == 1 {
+        set_bit(map, b);
+        return;
+    }
+    clear_bit(map, b);
 }
 
 // Makes bit b 1, and tells whether it was.

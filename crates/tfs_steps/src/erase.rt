@@ -5,7 +5,7 @@ ghost use lib.ListN.{length};
 ghost use Rattle.tfs_spec.specs.Requests.{storeAll};
 ghost use Rattle.tfs_map.specs.Under.{Under};
 ghost use Rattle.tfs_steps.specs.Erase.{eraseStores};
-use crate::low::release;
+use crate::low::mark;
 use crate::low::vacate;
 
 // Makes slot s and the blocks free.
@@ -14,5 +14,5 @@ pub fn erase_file(image: &mut [u8], s: usize, blocks: &[u32])
     ensures { λ _. ⌜ now (image .exit) ≡ storeAll 512 (now (image .entry)) (eraseStores 512 (now (image .entry)) s (now (blocks .entry))) ⌝ }
 {
     vacate(image, s);
-    release(image, blocks);
+    mark(image, blocks, 0);
 }

@@ -9,23 +9,14 @@ use tfs_dir::write::put_slot;
 use tfs_layout::DIR_AT;
 use tfs_layout::LOW_END;
 use tfs_layout::MAP_AT;
-use tfs_map::bits::clear_bits;
-use tfs_map::bits::set_bits;
+use tfs_map::bits::put_bits;
 
-// Reserves the blocks.
-pub fn reserve(image: &mut [u8], blocks: &[u32])
-    requires { ⌜ (1536 ≤ length (now image)) × Under 4096 (now blocks) ⌝ }
-    ensures { λ _. ⌜ now (image .exit) ≡ setBlock 512 (now (image .entry)) 1 (setBits (block 512 (now (image .entry)) 1) 1 (now (blocks .entry))) ⌝ }
+// Makes the map's bits of the blocks 1 or 0: reserves the blocks, or makes them free.
+pub fn mark(image: &mut [u8], blocks: &[u32], v: u32)
+    requires { ⌜ (1536 ≤ length (now image)) × Under 4096 (now blocks) × (v ≤ 1) ⌝ }
+    ensures { λ _. ⌜ now (image .exit) ≡ setBlock 512 (now (image .entry)) 1 (setBits (block 512 (now (image .entry)) 1) v (now (blocks .entry))) ⌝ }
 {
-    set_bits(&mut image[MAP_AT..DIR_AT], blocks);
-}
-
-// Makes the blocks free.
-pub fn release(image: &mut [u8], blocks: &[u32])
-    requires { ⌜ (1536 ≤ length (now image)) × Under 4096 (now blocks) ⌝ }
-    ensures { λ _. ⌜ now (image .exit) ≡ setBlock 512 (now (image .entry)) 1 (setBits (block 512 (now (image .entry)) 1) 0 (now (blocks .entry))) ⌝ }
-{
-    clear_bits(&mut image[MAP_AT..DIR_AT], blocks);
+    put_bits(&mut image[MAP_AT..DIR_AT], blocks, v);
 }
 
 // Enters a file in slot s.

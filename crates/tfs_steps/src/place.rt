@@ -7,7 +7,7 @@ ghost use Rattle.tfs_spec.specs.View.{view};
 ghost use Rattle.tfs_spec.specs.Requests.{storeAll, placeStores};
 ghost use Rattle.tfs_steps.specs.Place.{Placeable};
 use crate::low::enter;
-use crate::low::reserve;
+use crate::low::mark;
 use tfs_inode::put::put_inode;
 use tfs_layout::BLOCK;
 use tfs_runs::blank::zero_blocks;
@@ -31,6 +31,6 @@ pub fn place_file(image: &mut [u8], s: usize, name: &[u8], size: u32, blocks: &[
     let inode = blocks[0];
     zero_blocks(image, &blocks[1..end]);
     store_inode(image, inode as usize, size, &blocks[1..end]);
-    reserve(image, blocks);
+    mark(image, blocks, 1);
     enter(image, s, inode, name);
 }

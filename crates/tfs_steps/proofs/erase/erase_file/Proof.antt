@@ -11,8 +11,8 @@ returns c =
     let map = c .before .before in
     let dir = map .before .before .before .before in
     let start = dir .before .before .before .before in
-    erased 512 (now (start .args .image)) (dir .vacate .last .0) (map .release .last .0) (start .args .s) (now (start .args .blocks))
-    (omega arith) (start .pre .1) (dir .vacate .ensures) (map .release .ensures)
+    erased 512 (now (start .args .image)) (dir .vacate .last .0) (map .mark .last .0) (start .args .s) (now (start .args .blocks))
+    (omega arith) (start .pre .1) (dir .vacate .ensures) (map .mark .ensures)
 
 pub erase-file-spec : {M : Type 1} → statement M
 erase-file-spec =

@@ -22,10 +22,10 @@ store-inode-requires c κs =
     let start = c .before .before .before .before .before .before .before .before .before .before .before in
     (omega (arith, start .pre .5 0 (omega arith)), simp (length-take, length-drop) (omega arith))
 
-reserve-requires : tie.Need-reserve-requires
-reserve-requires c κs =
+mark-requires : tie.Need-mark-requires
+mark-requires c κs =
     let start = c .before .before .before .before .before .before .before .before .before .before .before .before .before .before .before in
-    (search needs, λ i h. start .pre .5 i h .1)
+    (search needs, (λ i h. start .pre .5 i h .1), search needs)
 
 returns : tie.Need-returns
 returns c =
@@ -34,10 +34,10 @@ returns c =
     let inode = map .before .before .before .before in
     let zeroed = inode .before .before .before .before .before in
     let start = zeroed .before .before .before .before .before .before .before in
-    placed (now (start .args .image)) (zeroed .zero-blocks .last .0) (inode .store-inode .last .0) (map .reserve .last .0) (dir .enter .last .0)
+    placed (now (start .args .image)) (zeroed .zero-blocks .last .0) (inode .store-inode .last .0) (map .mark .last .0) (dir .enter .last .0)
     (now (start .args .blocks)) (now (start .args .name)) (start .args .s) (start .args .size)
     (omega arith) (omega arith) (omega arith) (start .pre .5)
-    (zeroed .zero-blocks .ensures) (inode .store-inode .ensures) (map .reserve .ensures) (dir .enter .ensures)
+    (zeroed .zero-blocks .ensures) (inode .store-inode .ensures) (map .mark .ensures) (dir .enter .ensures)
 
 pub place-file-spec : {M : Type 1} → statement M
 place-file-spec =
@@ -53,7 +53,7 @@ place-file-spec =
     (λ c. search needs)
     (λ c. search needs)
     store-inode-requires
-    reserve-requires
+    mark-requires
     (λ c κs. search needs)
     (λ c. search needs)
     returns)
