@@ -26,7 +26,7 @@ pub enum CheckAnswer {
     Refused(Fault),
 }
 
-// Each other request checks the image first: Inconsistent has the fault. Refused has 30 or 31.
+// Each other request checks the image first: Inconsistent has the fault. Refused has 31, of find also 30.
 pub enum FindAnswer {
     // The header's offset.
     Found(u32),
@@ -35,6 +35,7 @@ pub enum FindAnswer {
 }
 
 pub enum EntryAnswer {
+    // The type as in the rules' list; executable is 0 or 1.
     Entry {
         file_type: u32,
         executable: u32,

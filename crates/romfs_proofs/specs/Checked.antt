@@ -1,17 +1,18 @@
 -- What the check says, in plain facts: the theorems over its tests, translated.
-use Prim.Native.Nat.{ℕ, suc, _+_, _≤_, _<_}
+use Prim.Native.Nat.{ℕ, suc, _+_, _%_, _≤_, _<_}
 use mathlib.Core.Path.{_≡_, refl, sym, ap, subst, _∙_}
 use mathlib.Core.Logic.{_≢_, ⊎-elim, _↔_}
 use mathlib.Core.Bool.{Bool, true, false}
 use mathlib.Core.List.{List}
 use native.Mathlib.Omega.{arith}
+use lib.Arith.{lt-of-le-ne}
 use lib.ListN.{length}
-use Rattle.romfs_spec.specs.Layout.{fullSize, nameLength, nameEnds, afterName, firstRoot, fileType, next, info, own}
+use Rattle.romfs_spec.specs.Layout.{pad16, fullSize, nameLength, nameEnds, afterName, firstRoot, fileType, next, info, own}
 use Rattle.romfs_spec.specs.Check.{accepted, broken, tooShort, badMagic, badFullSize, badVolumeSum, badVolumeName, badHeader, badNesting, tooDeep, fault, check}
 use Rattle.romfs_spec.specs.Accepted as plain
 use Rattle.romfs_spec.specs.Accepted.{SoundVolume, typeAt, nextAt, infoAt, HasList, RootFirst}
 use Rattle.romfs_spec.specs.Statements as book
-use Rattle.romfs_spec.specs.Statements.{HeaderFault, at26, at27, at28, FirstFault, FirstLink, Refused, at21, at22, at23, at24, at25, at-header, at-link}
+use Rattle.romfs_spec.specs.Statements.{Walked, HeaderFault, at26, at27, at28, FirstFault, FirstLink, Refused, at21, at22, at23, at24, at25, at-header, at-link}
 use Rattle.romfs_proofs.specs.Tested as test
 use Rattle.romfs_proofs.specs.Facts.{true-false, has-list, list-descends, list-first, sound-fault}
 use Rattle.romfs_proofs.specs.Visit as visit
@@ -243,6 +244,16 @@ module _ (s : List ℕ) (v : Volume s) where
   sound-all h p b d r = sound-is p b d (h p b d (is-reached (test-ends h) r))
 
 -- ---- accepted images
+-- a next header is a multiple of 16
+next-16 : (s : List ℕ) (p : ℕ) → nextAt s p % 16 ≡ 0
+unfolding nextAt
+next-16 s p = omega arith
+
+-- an entry's own bound is at most its list's, and so at most F
+own-to : (s : List ℕ) (p b o d : ℕ) → plain.OwnBound s p b o → b ≤ plain.full s → plain.Sound s p b d → o ≤ plain.full s
+own-to s p b _ d (plain.last z) l h = l
+own-to s p b _ d (plain.next z) l h = omega (arith, h .nested .next z .1)
+
 pub volume-in : (s : List ℕ) → test.Accepted s → Volume s
 volume-in s a = record { not21 = a .not21; not22 = a .not22; not23 = a .not23; not24 = a .not24; not25 = a .not25 }
 
@@ -300,22 +311,43 @@ is-refused {s} (at-link v h f) =
 pub check-refused : (s : List ℕ) (n p : ℕ) → (check s ≡ broken n p) ↔ Refused s n p
 check-refused s n p = (λ e. refused-is (theorems.check-given s (broken n p) .0 e), λ r. theorems.check-given s (broken n p) .1 (is-refused r))
 
--- ---- what the nesting gives on an accepted image
-pub reached-rises : (s : List ℕ) (p b d : ℕ) → plain.Accepted s → plain.Reached s p b d → (nextAt s p ≢ 0 → p < nextAt s p) × (HasList s p → p < infoAt s p)
+-- ---- what the nesting gives where 21 to 28 are not broken
+-- the root's first header lies before F
+root-lies : (s : List ℕ) (p : ℕ) → SoundVolume s → RootFirst s p → p ≢ plain.full s → (32 ≤ p) × (p % 16 ≡ 0) × (p < plain.full s)
+root-lies s p v f z =
+    let e : p ≡ 16 + pad16 (f .nameLength + 1) = f .is in
+    let to : 16 + f .nameLength < plain.full s = f .named .to in
+    let low : p ≤ plain.full s = omega (arith, v .fullSize .whole) in
+    (omega arith, omega arith, lt-of-le-ne low z)
+
+pub reached-lies : (s : List ℕ) (p b d : ℕ) → Walked s → plain.Reached s p b d → (32 ≤ p) × (p % 16 ≡ 0) × (p < b) × (b ≤ plain.full s)
+reached-lies s p b d a (plain.root f z) = let l = root-lies s p (a .0) f z in (l .0, l .1, l .2, omega arith)
+reached-lies s p b d a (plain.along {p = q} r z) =
+    let l = reached-lies s q b d a r in
+    let h = a .1 q b d r in
+    let n = h .nested .next z in
+    (omega (arith, l .0, n .0), next-16 s q, n .1, l .3)
+reached-lies s p b d a (plain.inside {p = q} {bound = c} {depth = e} r u w) =
+    let l = reached-lies s q c e a r in
+    let h = a .1 q c e r in
+    let n = h .nested .first u w in
+    (omega (arith, l .0, n .1), n .0, n .2, own-to s q c b e w (l .3) h)
+
+pub reached-rises : (s : List ℕ) (p b d : ℕ) → Walked s → plain.Reached s p b d → (nextAt s p ≢ 0 → p < nextAt s p) × (HasList s p → p < infoAt s p)
 reached-rises s p b d a r =
-    let h : plain.Sound s p b d = a .sound r in (
+    let h : plain.Sound s p b d = a .1 p b d r in (
       λ z. omega (arith, h .nested .next z),
       λ u. omega (arith, h .nested .first u (own-of s p b)),
     )
 
-pub reached-once : (s : List ℕ) (p b d c e : ℕ) → plain.Accepted s → plain.Reached s p b d → plain.Reached s p c e → (b ≡ c) × (d ≡ e)
+pub reached-once : (s : List ℕ) (p b d c e : ℕ) → Walked s → plain.Reached s p b d → plain.Reached s p c e → (b ≡ c) × (d ≡ e)
 reached-once s p b d c e a q r =
-    let t : test.Accepted s = is-accepted s a in
-    let v : Volume s = volume-in s t in
-    let to : (x y : ℕ) → plain.Reached s p x y → test.Reached s p x y = λ x y z. is-reached s v (test-ends s v (λ k l m n. t .sound n)) z in
-    theorems.reached-once t (to b d q) (to c e r)
+    let v : Volume s = is-volume s (a .0) in
+    let all : (p b d : ℕ) → test.Reached s p b d → test.Sound s p b d = all-sound s v (a .1) in
+    let to : (x y : ℕ) → plain.Reached s p x y → test.Reached s p x y = λ x y z. is-reached s v (test-ends s v all) z in
+    theorems.reached-once v (theorems.walk-accepted s v .1 all) (to b d q) (to c e r)
 
-pub reached-deep : (s : List ℕ) (p b d : ℕ) → plain.Accepted s → plain.Reached s p b d → d ≤ 8
+pub reached-deep : (s : List ℕ) (p b d : ℕ) → Walked s → plain.Reached s p b d → d ≤ 8
 reached-deep s p b d a (plain.root f z) = omega arith
 reached-deep s p b d a (plain.along {p = q} r z) = reached-deep s q b d a r
-reached-deep s p b d a (plain.inside {p = q} {bound = c} {depth = e} r u w) = omega (arith, a .sound r .shallow u)
+reached-deep s p b d a (plain.inside {p = q} {bound = c} {depth = e} r u w) = omega (arith, a .1 q c e r .shallow u)

@@ -17,11 +17,17 @@ name-length = plain.name-length
 pub word-sum : book.word-sum
 word-sum = plain.word-sum
 
+pub words-are : book.words-are
+words-are = plain.words-are
+
 pub header-is : book.header-is
 header-is = plain.header-is
 
 pub check-accepted : book.check-accepted
 check-accepted = checked.check-accepted
+
+pub reached-lies : book.reached-lies
+reached-lies = checked.reached-lies
 
 pub reached-rises : book.reached-rises
 reached-rises = checked.reached-rises

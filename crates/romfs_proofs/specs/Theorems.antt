@@ -186,13 +186,10 @@ is-accepted s a =
 pub check-accepted : (s : List ℕ) → (check s ≡ accepted) ↔ Accepted s
 check-accepted s = (accepts s, is-accepted s)
 
--- ---- what the nesting gives on an accepted image
--- a header stands in one list, with one bound and one depth
-pub reached-once : {s : List ℕ} {p b d c e : ℕ} → Accepted s → Reached s p b d → Reached s p c e → (b ≡ c) × (d ≡ e)
-reached-once {s} {p} {b} {d} {c} {e} a q r =
-    let parts = check-parts s (is-accepted s a) in
-    let v : Volume s = volume-of s (parts .0) in
-    once s p (suc p) (firstRoot s) (fullSize s) 1 b d c e (root-in s v (has-root q)) (omega arith) (met s v (parts .1) q) (met s v (parts .1) r)
+-- a header is reached with one bound and one depth
+pub reached-once : {s : List ℕ} {p b d c e : ℕ} → Volume s → walk s ≡ accepted → Reached s p b d → Reached s p c e → (b ≡ c) × (d ≡ e)
+reached-once {s} {p} {b} {d} {c} {e} v w q r =
+    once s p (suc p) (firstRoot s) (fullSize s) 1 b d c e (root-in s v (has-root q)) (omega arith) (met s v w q) (met s v w r)
 
 -- when a refusal is given, with its number and its place
 pub data Refused (s : List ℕ) : ℕ → ℕ → Type 0 where

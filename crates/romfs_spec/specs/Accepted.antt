@@ -20,7 +20,7 @@ full s = numberAt s 8
 abbrev pub SumZero : List ℕ → ℕ → ℕ → Type 0
 SumZero s p n = sum (λ i. numberAt s (p + 4 * i)) n % 2 ^ 32 ≡ 0
 
--- some byte from p to F - 1 is zero
+-- some byte from p to F - 1 is zero (23 keeps F inside the slice)
 pub record SomeZero (s : List ℕ) (p : ℕ) : Type 0 where
   pub at : ℕ
   pub from : p ≤ at

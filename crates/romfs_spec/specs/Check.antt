@@ -95,7 +95,7 @@ visitEntry s test (suc left) bound p =
     andThen (test bound (7 - left) p)
     (cond (hasList s p) (visitList s (visitEntry s test left (own s bound p)) (own s bound p - info s p) (info s p)) accepted)
 
--- the whole image, each entry tested with its bound, its depth and its offset
+-- the root list and all below it down to the eighth, each entry tested with its bound, its depth and its offset
 unfoldable pub visitAll : List ℕ → (ℕ → ℕ → ℕ → Verdict) → Verdict
 visitAll s test =
     cond (eqb (firstRoot s) (fullSize s)) accepted
@@ -114,7 +114,7 @@ towards s want p =
     cond (leads (next s p) want) (next s p)
     (cond (descends s p && leads (info s p) want) (info s p) 0)
 
--- Whether want is a reached header, by going down one path. The number is fuel.
+-- Whether want is a reached header, where every reached header is sound, by going down one path. The number is fuel.
 unfoldable pub seek : List ℕ → ℕ → ℕ → ℕ → Bool
 seek s want zero p = false
 seek s want (suc fuel) p = cond (eqb want p) true (cond (eqb (towards s want p) 0) false (seek s want fuel (towards s want p)))

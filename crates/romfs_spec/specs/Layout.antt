@@ -13,7 +13,7 @@ fullSize s = word s 8
 abbrev pub pad16 : ℕ → ℕ
 pad16 n = (n + 15) / 16 * 16
 
--- Names are zero-ended: the number of bytes before the zero of the name at p, which is looked for within F.
+-- Names are zero-ended: the number of bytes before the zero of the name at p, which is looked for within F; up to F where there is none.
 unfoldable pub nameLength : List ℕ → ℕ → ℕ
 nameLength s p = least (λ i. zeroAt s (p + i)) (fullSize s - p)
 
@@ -21,7 +21,7 @@ nameLength s p = least (λ i. zeroAt s (p + i)) (fullSize s - p)
 unfoldable pub nameEnds : List ℕ → ℕ → Bool
 nameEnds s p = ltb (p + nameLength s p) (fullSize s)
 
--- .. and padded to 16, the zero counted: where the name at p ends
+-- .. and padded to 16, the zero counted: where the padded name at p ends
 unfoldable pub afterName : List ℕ → ℕ → ℕ
 afterName s p = p + pad16 (nameLength s p + 1)
 

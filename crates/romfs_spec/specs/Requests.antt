@@ -18,7 +18,7 @@ checked accepted a = a
 checked (broken n p) a = refused n p
 
 -- ---- find
--- what a directory's first-header word leads to; 0 is the root list
+-- where the list of a directory begins: what its first-header word leads to; directory 0 is the root list, and 0 as the result an empty list
 unfoldable pub firstOf : List ℕ → ℕ → ℕ
 firstOf s dir = cond (eqb dir 0) (cond (eqb (firstRoot s) (fullSize s)) 0 (firstRoot s)) (info s dir)
 
@@ -30,6 +30,7 @@ matchFrom s want (suc fuel) p = cond (sameList (name s p) want) p (cond (eqb (ne
 unfoldable pub matchIn : List ℕ → List ℕ → ℕ → ℕ
 matchIn s want first = cond (eqb first 0) 0 (matchFrom s want (fullSize s) first)
 
+-- the root list, or a reached directory
 unfoldable pub isDirectory : List ℕ → ℕ → Bool
 isDirectory s dir = eqb dir 0 || (isReached s dir && eqb (fileType s dir) 1)
 
@@ -85,10 +86,11 @@ partOf s at (refused n p) = []
 unfoldable pub content : List ℕ → ℕ → List ℕ
 content s p = partOf s (contentAt s p) (contentLength s p)
 
--- where that part begins: at the padded name's end; at 0 where it is refused
+-- at, where a length is answered; 0 where it is refused
 abbrev pub startOf : ℕ → Answer ℕ → ℕ
 startOf at (granted n) = at
 startOf at (refused n p) = 0
 
+-- where that part begins: at the padded name's end; at 0 where it is refused
 unfoldable pub contentStart : List ℕ → ℕ → ℕ
 contentStart s p = startOf (contentAt s p) (contentLength s p)

@@ -1,4 +1,4 @@
--- The statements about romfs, each as a type. Each is proved, under the same name, in romfs_proofs/specs/Proved.antt.
+-- The statements about romfs, each as a type. Each is proved, under the same name, in romfs_proofs/specs/Proved.antt; the worked image of the rules is in the crate starred.
 use Prim.Native.Nat.{ℕ, suc, _+_, _*_, _%_, _^_, _≤_, _<_, max}
 use mathlib.Core.Path.{_≡_}
 use mathlib.Core.Logic.{_≢_, _⊎_, _↔_}
@@ -27,13 +27,19 @@ name-length = (s : List ℕ) (p n : ℕ) → ((layout.nameEnds s p ≡ true) × 
 abbrev pub word-sum : Type 0
 word-sum = (s : List ℕ) (p n : ℕ) → layout.wordSum s p n ≡ sum (λ i. numberAt s (p + 4 * i)) n % 2 ^ 32
 
--- the definitions of a header are those by its bytes
-pub record HeaderIs (s : List ℕ) (p n : ℕ) : Type 0 where
+-- the definitions of a header are those by its bytes: of its words,
+pub record WordsAre (s : List ℕ) (p : ℕ) : Type 0 where
   pub fileType : layout.fileType s p ≡ typeAt s p
   pub executable : layout.executable s p ≡ executableAt s p
   pub next : layout.next s p ≡ nextAt s p
   pub info : layout.info s p ≡ infoAt s p
   pub size : layout.size s p ≡ sizeAt s p
+
+abbrev pub words-are : Type 0
+words-are = (s : List ℕ) (p : ℕ) → WordsAre s p
+
+-- and, where its name has an end, of its name and its data
+pub record HeaderIs (s : List ℕ) (p n : ℕ) : Type 0 where
   pub name : layout.name s p ≡ take n (drop (p + 16) s)
   pub contentAt : layout.contentAt s p ≡ dataAt p n
   pub endOf : layout.endOf s p ≡ endAt s p n
@@ -46,17 +52,25 @@ header-is = (s : List ℕ) (p n : ℕ) → ZeroAfter s (p + 16) n → HeaderIs s
 abbrev pub check-accepted : Type 0
 check-accepted = (s : List ℕ) → (check s ≡ accepted) ↔ Accepted s
 
+-- ---- what the nesting gives where 21 to 28 are not broken, whatever 29 says
+abbrev pub Walked : List ℕ → Type 0
+Walked s = SoundVolume s × ((p b d : ℕ) → Reached s p b d → Sound s p b d)
+
+-- A reached header lies before its list's bound, which for an inner list is its directory's next or an outer bound, and that before F.
+abbrev pub reached-lies : Type 0
+reached-lies = (s : List ℕ) (p b d : ℕ) → Walked s → Reached s p b d → (32 ≤ p) × (p % 16 ≡ 0) × (p < b) × (b ≤ full s)
+
 -- The nesting rules out loops: next and a list that is descended to lie further on,
 abbrev pub reached-rises : Type 0
-reached-rises = (s : List ℕ) (p b d : ℕ) → Accepted s → Reached s p b d → (nextAt s p ≢ 0 → p < nextAt s p) × (HasList s p → p < infoAt s p)
+reached-rises = (s : List ℕ) (p b d : ℕ) → Walked s → Reached s p b d → (nextAt s p ≢ 0 → p < nextAt s p) × (HasList s p → p < infoAt s p)
 
--- a header stands in one list, with one bound and one depth,
+-- a header is reached with one bound and one depth,
 abbrev pub reached-once : Type 0
-reached-once = (s : List ℕ) (p b d c e : ℕ) → Accepted s → Reached s p b d → Reached s p c e → (b ≡ c) × (d ≡ e)
+reached-once = (s : List ℕ) (p b d c e : ℕ) → Walked s → Reached s p b d → Reached s p c e → (b ≡ c) × (d ≡ e)
 
 -- and the deepest list is 8.
 abbrev pub reached-deep : Type 0
-reached-deep = (s : List ℕ) (p b d : ℕ) → Accepted s → Reached s p b d → d ≤ 8
+reached-deep = (s : List ℕ) (p b d : ℕ) → Walked s → Reached s p b d → d ≤ 8
 
 -- ---- refusals
 -- a header that sound headers lead to
@@ -193,7 +207,7 @@ abbrev pub content-given : Type 0
 content-given = (s : List ℕ) (p : ℕ) → ContentSays s p (contentLength s p)
 
 -- ---- bytes past F
--- t holds the same first F bytes as s. Where F is under 32, which 23 refuses, the first 32 are the same, for F itself stands in them.
+-- t holds the same first F bytes as s. Where F is under 32, so that s is refused, the first 32 are the same, for F itself stands in them. A slice shorter than that has only itself.
 abbrev pub SameFull : List ℕ → List ℕ → Type 0
 SameFull s t = take (max 32 (full s)) t ≡ take (max 32 (full s)) s
 
