@@ -1,14 +1,9 @@
 -- What a result of the C interface tells: an answer of the rules, as numbers.
-use Prim.Native.Nat.{ℕ, _≤_}
+use Prim.Native.Nat.{ℕ}
 use mathlib.Core.List.{List}
-use mathlib.Core.Path.{_≡_, sym, ap, subst, _∙_}
-use native.Mathlib.Omega.{arith}
-use lib.ListN.{length, take}
-use lib.Seq.{length-take-le}
+use lib.ListN.{length}
 use Rattle.tfs_spec.specs.Requests.{Answer, done, value, unused, file, refused}
-use Rattle.tfs.specs.declared.EntryAnswer.{EntryAnswer}
-use Rattle.tfs.specs.declared.EntryAnswer.the-variants.{File}
-use Rattle.tfs.specs.Told.{entryTold, listedName, EntryFits}
+use Rattle.tfs.specs.Told.{listedName}
 use Rattle.tfs_c.specs.declared.TfsResult.{TfsResult}
 use Rattle.tfs_c.specs.declared.TfsSlot.{TfsSlot}
 
@@ -41,11 +36,3 @@ slotWith (refused num p) name = emptySlot num p name
 -- the name is padded with zeros, and all zeros where there is no file
 abbrev pub slotOf : Answer → TfsSlot
 slotOf a = slotWith a (listedName a)
-
--- a file's name has the length that stands beside it
-pub told-file : (e : EntryAnswer) (name : List ℕ) (len i z : ℕ) → length name ≡ 16 → EntryFits e → e ≡ File len i z → fileSlot len i z name ≡ slotWith (entryTold e name) name
-unfolding slotWith
-told-file e name len i z long fits h =
-    let le : len ≤ 16 = subst EntryFits h fits in
-    let cut : length (take len name) ≡ len = length-take-le len name (omega (arith, long, le)) in
-    ap (λ (k : ℕ). fileSlot k i z name) (sym cut) ∙ ap (λ (x : EntryAnswer). slotWith (entryTold x name) name) (sym h)

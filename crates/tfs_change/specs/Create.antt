@@ -18,7 +18,7 @@ use Rattle.tfs_facts.specs.Entries.{allowed}
 use Rattle.tfs_facts.specs.Chosen.{CreateGrant, Choice, choice}
 use Rattle.tfs_map.specs.Under.{front, front-fits}
 use Rattle.tfs_steps.specs.Place.{Placeable, placeable-below}
-use Rattle.tfs_steps.specs.Told.{Refuses, refuses}
+use Rattle.tfs_steps.specs.Refuses.{Refuses, refuses}
 
 -- tests 8 to 10 are passed
 pub record Fresh (img nm : List ℕ) (z : ℕ) : Type 0 where

@@ -15,7 +15,7 @@ use Rattle.tfs_facts.specs.Names.{slot-hit}
 use Rattle.tfs_map.specs.Under.{Under, front, front-fits}
 use Rattle.tfs_inode.specs.Claims.{claimList, length-claims}
 use Rattle.tfs_steps.specs.Erase.{eraseStores, erase-removes}
-use Rattle.tfs_steps.specs.Told.{Refuses, refuses}
+use Rattle.tfs_steps.specs.Refuses.{Refuses, refuses}
 use Rattle.tfs_steps.specs.Ready.{inode-small, inode-in, need-few, claims-are, claims-under}
 
 -- the name is in slot s of a consistent volume, and b is its inode

@@ -1,4 +1,5 @@
 pub mod Told
+pub mod Refuses
 pub mod Format
 pub mod Place
 pub mod Erase

@@ -8,7 +8,8 @@ use Rattle.tfs.specs.declared.EntryAnswer.{EntryAnswer}
 use Rattle.tfs.specs.Told.{entryTold}
 use Rattle.tfs_c.specs.declared.TfsResult.{TfsResult}
 use Rattle.tfs_c.specs.declared.TfsSlot.{TfsSlot}
-use Rattle.tfs_c.specs.Result.{resultOf, emptySlot, slotWith, told-file}
+use Rattle.tfs_c.specs.Result.{resultOf, emptySlot, slotWith}
+use Rattle.tfs_c.specs.Entry.{told-file}
 use Rattle.tfs_c.proofs.of_entry.Statement.{statement}
 use Rattle.tfs_c.proofs.of_entry.Tie as tie
 

@@ -4,7 +4,7 @@ use native.Mathlib.Omega.{arith}
 use lib.ListN.{length}
 use denote.Ref.{now}
 use borrow.Author.Needs.{needs}
-use Rattle.tfs_steps.specs.Told.{refuses}
+use Rattle.tfs_steps.specs.Refuses.{refuses}
 use Rattle.tfs_transfer.specs.Transfer.{reachTold, Reaches, allowed, blocks-inside, blocks-few, blocks-reach, write-all}
 use Rattle.tfs_transfer.specs.declared.Reach.{Reach}
 use Rattle.tfs_transfer.specs.declared.Reach.the-variants.{Bytes}
