@@ -12,13 +12,13 @@ use lib.Dec.{eqb}
 use Rattle.lists.specs.Lists.{sameList, part}
 use Rattle.romfs_spec.specs.Layout.{fullSize, pad16, firstRoot, nameLength, fileType, executable, next, info, size, name, contentAt, afterName, hasData}
 use Rattle.romfs_spec.specs.Check.{Verdict, accepted, broken, isReached, check}
-use Rattle.romfs_proofs.specs.Tested.{along, IsReached}
+use Rattle.romfs_facts.specs.Tested.{along, IsReached}
 use Rattle.romfs_spec.specs.Requests as rules
 use Rattle.romfs_spec.specs.Requests.{Answer, granted, refused, checked, firstOf, matchFrom, matchIn, isDirectory, findStep, Entry, entryAt, entryStep, contentStep, startOf}
-use Rattle.romfs_proofs.specs.Walked.{volume-of, sound}
-use Rattle.romfs_proofs.specs.Theorems.{check-parts, check-number}
-use Rattle.romfs_proofs.specs.Find.{match-yes, match-end, match-next}
-use Rattle.romfs_proofs.specs.Given.{content-in}
+use Rattle.romfs_facts.specs.Walked.{volume-of, sound}
+use Rattle.romfs_facts.specs.Theorems.{check-parts, check-number}
+use Rattle.romfs_facts.specs.Find.{match-yes, match-end, match-next}
+use Rattle.romfs_facts.specs.Given.{content-in}
 use Rattle.romfs_check.specs.Known.{Walked}
 use Rattle.romfs.specs.Told.{faultTold, FaultFits, faultOf, faultAnswer}
 use Rattle.romfs.specs.declared.Fault.{Fault}

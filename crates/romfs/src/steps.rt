@@ -7,7 +7,7 @@ ghost use Rattle.romfs_spec.specs.Layout.{contentAt};
 ghost use Rattle.romfs_spec.specs.Check.{accepted};
 ghost use Rattle.romfs_spec.specs.Check as rules;
 ghost use Rattle.romfs_spec.specs.Requests.{firstOf, isDirectory, matchFrom, findStep, entryStep, contentStep, startOf};
-ghost use Rattle.romfs_proofs.specs.Tested.{IsReached};
+ghost use Rattle.romfs_facts.specs.Tested.{IsReached};
 ghost use Rattle.romfs_check.specs.Known.{Walked};
 ghost use Rattle.romfs.specs.Told.{faultOf, findTold, FindFits, entryTold, EntryFits, partTold, partStart, PartFits};
 use crate::EntryAnswer;

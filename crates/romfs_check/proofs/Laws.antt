@@ -10,13 +10,13 @@ use lib.ListN.{length}
 use Rattle.romfs_spec.specs.Layout.{fullSize, firstRoot, nameLength, nameEnds, wordSum, fileType, next, info, own, isDots, hasList}
 use Rattle.romfs_spec.specs.Check as rules
 use Rattle.romfs_spec.specs.Check.{Verdict, accepted, broken, tooShort, badMagic, badFullSize, badVolumeSum, badVolumeName, andThen, visitList, visitEntry, visitAll, walk, volume, links, check, leads, towards, seek, isReached, badLink}
-use Rattle.romfs_proofs.specs.Tested.{Reached, root, along, inside, IsReached, Sound}
+use Rattle.romfs_facts.specs.Tested.{Reached, root, along, inside, IsReached, Sound}
 use Rattle.list_laws.specs.Test.{or-no-l, or-no-r}
-use Rattle.romfs_proofs.specs.Facts.{room, ends, own-to, first-to, depth-to, fault-sound, list-descends, list-first}
-use Rattle.romfs_proofs.specs.Visit.{list-refused, list-last, list-next, entry-refused, entry-leaf, entry-list, entry-test}
-use Rattle.romfs_proofs.specs.Walked.{Volume, root-to, visit-none, visit-root, sound}
-use Rattle.romfs_proofs.specs.Links.{linkFault}
-use Rattle.romfs_proofs.specs.Seek.{seek-here, seek-none, seek-on, seek-reached, reached-is, is-none, is-seek, towards-reached, towards-further}
+use Rattle.romfs_facts.specs.Facts.{room, ends, own-to, first-to, depth-to, fault-sound, list-descends, list-first}
+use Rattle.romfs_facts.specs.Visit.{list-refused, list-last, list-next, entry-refused, entry-leaf, entry-list, entry-test}
+use Rattle.romfs_facts.specs.Walked.{Volume, root-to, visit-none, visit-root, sound}
+use Rattle.romfs_facts.specs.Links.{linkFault}
+use Rattle.romfs_facts.specs.Seek.{seek-here, seek-none, seek-on, seek-reached, reached-is, is-none, is-seek, towards-reached, towards-further}
 use Rattle.romfs_headers.specs.Known.{Whole, Reads, stepOf, step-reads}
 use Rattle.romfs_check.specs.Known.{Walked, Here, testOf, Meets, Links}
 use Rattle.romfs_check.specs.Facts.{reach-room, sound-next}

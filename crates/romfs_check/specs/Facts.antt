@@ -6,9 +6,9 @@ use mathlib.Core.List.{List}
 use native.Mathlib.Omega.{arith}
 use lib.ListN.{length}
 use Rattle.romfs_spec.specs.Layout.{fullSize, next}
-use Rattle.romfs_proofs.specs.Tested.{IsReached, Sound}
-use Rattle.romfs_proofs.specs.Facts.{room, next-from, next-to}
-use Rattle.romfs_proofs.specs.Walked.{Volume, full-from, full-to, reached-room}
+use Rattle.romfs_facts.specs.Tested.{IsReached, Sound}
+use Rattle.romfs_facts.specs.Facts.{room, next-from, next-to}
+use Rattle.romfs_facts.specs.Walked.{Volume, full-from, full-to, reached-room}
 use Rattle.romfs_headers.specs.Known.{Whole}
 use Rattle.romfs_check.specs.Known.{Walked}
 

@@ -5,9 +5,9 @@ use mathlib.Core.Bool.{Bool, true, false}
 use mathlib.Core.List.{List}
 use Rattle.romfs_spec.specs.Layout.{info, own, hasList}
 use Rattle.romfs_spec.specs.Check.{Verdict, accepted, broken, fault, walk, badLink}
-use Rattle.romfs_proofs.specs.Tested.{Reached}
-use Rattle.romfs_proofs.specs.Walked.{Volume}
-use Rattle.romfs_proofs.specs.Links.{linkFault}
+use Rattle.romfs_facts.specs.Tested.{Reached}
+use Rattle.romfs_facts.specs.Walked.{Volume}
+use Rattle.romfs_facts.specs.Links.{linkFault}
 use Rattle.romfs_headers.specs.Known.{Whole}
 use Rattle.romfs_headers.specs.declared.Step.{Step}
 use Rattle.romfs_headers.specs.declared.Step.the-variants as step

@@ -13,7 +13,7 @@ use lib.Seq.{set-out, getD-set-same, getD-set-other}
 use lib.Dec.{ltb, eqb}
 use Rattle.lists.specs.Lists.{least}
 use Rattle.list_laws.specs.Least.{Below, found, none-found}
-use Rattle.romfs_proofs.specs.Tested.{IsReached}
+use Rattle.romfs_facts.specs.Tested.{IsReached}
 use Rattle.romfs_spec.specs.Check.{leads}
 
 -- where the eight marks of the part with offset p stand

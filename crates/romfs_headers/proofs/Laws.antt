@@ -16,7 +16,7 @@ use Rattle.list_laws.specs.Part.{getD-part, length-part}
 use Rattle.list_laws.specs.Least.{Below, found, none-found}
 use Rattle.romfs_spec.specs.Layout.{fullSize, nameLength, wordSum, next, info, endOf, own, hasList}
 use Rattle.romfs_spec.specs.Check.{accepted, broken, overBound, badHeader, badNext, badFirst, badNesting, tooDeep, fault}
-use Rattle.romfs_proofs.specs.Facts.{room}
+use Rattle.romfs_facts.specs.Facts.{room}
 
 -- ---- sums
 pub sum-more : (s : List ℕ) (p n : ℕ) → wordSum s p (n + 1) ≡ (wordSum s p n + word s (p + 4 * n)) % 2 ^ 32

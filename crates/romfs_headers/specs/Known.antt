@@ -6,7 +6,7 @@ use mathlib.Core.List.{List}
 use lib.ListN.{length}
 use Rattle.romfs_spec.specs.Layout.{fullSize, nameLength, info, own, hasList}
 use Rattle.romfs_spec.specs.Check.{Verdict, accepted, broken, fault}
-use Rattle.romfs_proofs.specs.Facts.{fault-place}
+use Rattle.romfs_facts.specs.Facts.{fault-place}
 use Rattle.romfs_headers.specs.declared.Step.{Step}
 use Rattle.romfs_headers.specs.declared.Step.the-variants as step
 

@@ -17,15 +17,15 @@ use Rattle.romfs_spec.specs.Requests.{Answer, granted, refused, checked, firstO
 use Rattle.romfs_spec.specs.Accepted.{full, ZeroAfter, sizeAt, IsReached, Accepted}
 use Rattle.romfs_spec.specs.Statements as book
 use Rattle.romfs_spec.specs.Statements.{Answered, refusal, at31, fits, Directory, FirstGiven, InList, FirstMatch, Finds, FindSays, EntryIs, EntrySays, HasContent, ContentIs, ContentSays}
-use Rattle.romfs_proofs.specs.Tested as test
-use Rattle.romfs_proofs.specs.Facts.{both, either, or-yes, and-yes-l, and-yes-r, true-false}
-use Rattle.romfs_proofs.specs.Lowest.{Out, fine, fails, out, yes-no}
-use Rattle.romfs_proofs.specs.Walked.{Volume, volume-of, full-to, sound}
-use Rattle.romfs_proofs.specs.Seek.{reached-iff}
-use Rattle.romfs_proofs.specs.Theorems.{check-parts}
-use Rattle.romfs_proofs.specs.Given.{first-info, first-reached, data-type, Content, content-in}
-use Rattle.romfs_proofs.specs.Find as walk
-use Rattle.romfs_proofs.specs.Find.{find-first}
+use Rattle.romfs_facts.specs.Tested as test
+use Rattle.romfs_facts.specs.Facts.{both, either, or-yes, and-yes-l, and-yes-r, true-false}
+use Rattle.romfs_facts.specs.Lowest.{Out, fine, fails, out, yes-no}
+use Rattle.romfs_facts.specs.Walked.{Volume, volume-of, full-to, sound}
+use Rattle.romfs_facts.specs.Seek.{reached-iff}
+use Rattle.romfs_facts.specs.Theorems.{check-parts}
+use Rattle.romfs_facts.specs.Given.{first-info, first-reached, data-type, Content, content-in}
+use Rattle.romfs_facts.specs.Find as walk
+use Rattle.romfs_facts.specs.Find.{find-first}
 use Rattle.romfs_proofs.specs.Plain.{full-is, type-is, executable-is, next-is, info-is, size-is, length-is, is-length, content-is, named-of, of-named}
 use Rattle.romfs_proofs.specs.Checked.{root-first, root-is, volume-named, test-ends, reach, unreach, check-accepted, check-refused}
 

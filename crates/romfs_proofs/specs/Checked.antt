@@ -13,12 +13,12 @@ use Rattle.romfs_spec.specs.Accepted as plain
 use Rattle.romfs_spec.specs.Accepted.{SoundVolume, typeAt, nextAt, infoAt, HasList, RootFirst}
 use Rattle.romfs_spec.specs.Statements as book
 use Rattle.romfs_spec.specs.Statements.{Walked, HeaderFault, at26, at27, at28, FirstFault, FirstLink, Refused, at21, at22, at23, at24, at25, at-header, at-link}
-use Rattle.romfs_proofs.specs.Tested as test
-use Rattle.romfs_proofs.specs.Facts.{true-false, has-list, list-descends, list-first, sound-fault}
-use Rattle.romfs_proofs.specs.Visit as visit
-use Rattle.romfs_proofs.specs.Lowest.{yes-no}
-use Rattle.romfs_proofs.specs.Walked.{Volume, full-to, Met}
-use Rattle.romfs_proofs.specs.Theorems as theorems
+use Rattle.romfs_facts.specs.Tested as test
+use Rattle.romfs_facts.specs.Facts.{true-false, has-list, list-descends, list-first, sound-fault}
+use Rattle.romfs_facts.specs.Visit as visit
+use Rattle.romfs_facts.specs.Lowest.{yes-no}
+use Rattle.romfs_facts.specs.Walked.{Volume, full-to, Met}
+use Rattle.romfs_facts.specs.Theorems as theorems
 use Rattle.romfs_proofs.specs.Plain.{full-is, type-is, next-is, info-is, length-is, is-length, name-ends, ends-of, dots-is, has-list-is, Fails, short-fails, magic-fails, full-fails, sum-fails, volume-name-fails, header-of, of-header, own-of, own-is, nesting-fails, deep-fails}
 
 -- ---- a test holds exactly when what it denies does not

@@ -17,16 +17,16 @@ use Rattle.list_laws.specs.Word.{word-cong}
 use Rattle.list_laws.specs.Part.{getD-part}
 use Rattle.romfs_spec.specs.Layout.{fullSize, nameLength, nameEnds, afterName, firstRoot, fileType, executable, next, info, size, name, contentAt, endOf, own, isDots, descends, hasList, hasData, wordSum}
 use Rattle.romfs_spec.specs.Check.{Verdict, accepted, broken, tooShort, badMagic, badFullSize, badVolumeSum, badVolumeName, overBound, badName, badSum, badInfo, badSize, badHeader, badNext, badFirst, badNesting, tooDeep, fault, andThen, visitList, visitEntry, visitAll, walk, towards, seek, isReached, badLink, links, volume, check}
-use Rattle.romfs_proofs.specs.Tested.{along, IsReached, Sound, root}
+use Rattle.romfs_facts.specs.Tested.{along, IsReached, Sound, root}
 use Rattle.romfs_spec.specs.Requests.{Answer, granted, refused, checked, firstOf, matchFrom, matchIn, isDirectory, findStep, find, entryAt, entryStep, entry, contentStep, contentLength, partOf, content, contentStart}
-use Rattle.romfs_proofs.specs.Facts.{and-yes-l, fault-sound, next-to, own-to, first-16, first-to}
-use Rattle.romfs_proofs.specs.Visit.{entry-test}
-use Rattle.romfs_proofs.specs.Walked.{Volume, volume-of, full-16, root-in, reached-room}
-use Rattle.romfs_proofs.specs.Seek.{is-reached, towards-reached}
-use Rattle.romfs_proofs.specs.Theorems.{check-parts}
+use Rattle.romfs_facts.specs.Facts.{and-yes-l, fault-sound, next-to, own-to, first-16, first-to}
+use Rattle.romfs_facts.specs.Visit.{entry-test}
+use Rattle.romfs_facts.specs.Walked.{Volume, volume-of, full-16, root-in, reached-room}
+use Rattle.romfs_facts.specs.Seek.{is-reached, towards-reached}
+use Rattle.romfs_facts.specs.Theorems.{check-parts}
 use Rattle.romfs_spec.specs.Statements.{SameFull, SameAnswers}
 use Rattle.romfs_proofs.specs.Plain.{full-is}
-use Rattle.romfs_proofs.specs.Given.{dir-is, first-reached, content-in}
+use Rattle.romfs_facts.specs.Given.{dir-is, first-reached, content-in}
 
 -- t holds the same first F bytes as s, by fullSize
 abbrev Same : List ℕ → List ℕ → Type 0

@@ -18,8 +18,8 @@ use Rattle.romfs_spec.specs.Layout.{pad16, fullSize, nameLength, nameEnds, afte
 use Rattle.romfs_spec.specs.Check.{tooShort, badMagic, badFullSize, badVolumeSum, badVolumeName, overBound, badName, badSum, badInfo, badSize, badHeader, badNext, badFirst, badNesting, tooDeep}
 use Rattle.romfs_spec.specs.Accepted.{numberAt, full, SomeZero, ZeroAfter, LongEnough, RightMagic, RightFullSize, RightVolumeSum, typeAt, executableAt, nextAt, infoAt, sizeAt, dataAt, endAt, Named, Dots, HasList, OwnBound, last, next as toNext, SoundHeader, Nested, Shallow}
 use Rattle.romfs_spec.specs.Statements.{WordsAre, HeaderIs}
-use Rattle.romfs_proofs.specs.Facts.{and-no, or-yes, either, and-yes-l, and-yes-r, true-false, own-next, own-last}
-use Rattle.romfs_proofs.specs.Lowest.{yes-no}
+use Rattle.romfs_facts.specs.Facts.{and-no, or-yes, either, and-yes-l, and-yes-r, true-false, own-next, own-last}
+use Rattle.romfs_facts.specs.Lowest.{yes-no}
 
 -- ---- numbers
 pub number-is : (s : List ℕ) (p : ℕ) → word s p ≡ numberAt s p

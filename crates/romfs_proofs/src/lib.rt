@@ -1,1 +1,1 @@
-// Proofs of the statements of romfs_spec, and the laws of its definitions that code uses. No code: see specs/.
+// Proofs of the statements of romfs_spec. No code: see specs/.

@@ -13,8 +13,7 @@ use Rattle.list_laws.specs.Test.{zero-bytes, and-of, and-l, and-r, eqb-of}
 use Rattle.list_laws.specs.Least.{least-below}
 use Rattle.list_laws.specs.Word.{length-words, words-at, word-bytes4, word-skip, zero-word}
 use Rattle.tfs_spec.specs.Layout.{slotInode, nameField, slotName, slotFree, slotUsed, nameFormed, inRange, entry, inodeSize, inodeNumber, inodeBlock, labelAllowed, nameAllowed}
-use Rattle.tfs_facts.specs.CheckMeans.{Named}
-use Rattle.tfs_facts.specs.CheckMeans.{name-is, formed-named}
+use Rattle.tfs_facts.specs.CheckMeans.{Named, name-is, formed-named}
 
 pub length-pad : (n : ℕ) (l : List ℕ) → length (padTo n l) ≡ n
 length-pad n l = simp (length-append, length-take, length-replicate) (omega arith)

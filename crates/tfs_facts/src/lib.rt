@@ -1,1 +1,1 @@
-// Facts on the TFS definitions that code and laws use. No code: see specs/.
+// Facts on the TFS definitions that code and proofs use. No code: see specs/.

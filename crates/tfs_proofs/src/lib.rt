@@ -1,1 +1,1 @@
-// What the TFS requests do, as laws over their definitions. No code: see specs/.
+// Proofs of the statements of tfs_spec. No code: see specs/.

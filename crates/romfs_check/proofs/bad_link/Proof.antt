@@ -8,7 +8,7 @@ use native.Mathlib.Omega.{arith}
 use lib.Dec.{eqb}
 use denote.Ref.{now}
 use Rattle.romfs_spec.specs.Check.{isReached}
-use Rattle.romfs_proofs.specs.Seek.{is-reached}
+use Rattle.romfs_facts.specs.Seek.{is-reached}
 use Rattle.romfs_check.proofs.Laws as laws
 use Rattle.romfs_check.proofs.bad_link.Statement.{statement}
 use Rattle.romfs_check.proofs.bad_link.Tie as tie

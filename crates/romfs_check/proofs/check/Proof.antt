@@ -3,7 +3,7 @@ use denote.Ref.{now}
 use Rattle.romfs_spec.specs.Check.{andThen, volume, walk, links}
 use Rattle.romfs_check.specs.Told.{verdictTold}
 use Rattle.romfs_check.proofs.Laws as laws
-use Rattle.romfs_proofs.specs.Walked.{volume-of}
+use Rattle.romfs_facts.specs.Walked.{volume-of}
 use borrow.Author.Needs.{needs}
 use Rattle.romfs_check.proofs.check.Statement.{statement}
 use Rattle.romfs_check.proofs.check.Tie as tie

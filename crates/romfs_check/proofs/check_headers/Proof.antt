@@ -1,8 +1,8 @@
 use mathlib.Core.Path.{refl, sym, ap, _∙_}
 use denote.Ref.{now}
 use Rattle.romfs_spec.specs.Check.{walk, links}
-use Rattle.romfs_proofs.specs.Facts.{true-false}
-use Rattle.romfs_proofs.specs.Links.{links-visit}
+use Rattle.romfs_facts.specs.Facts.{true-false}
+use Rattle.romfs_facts.specs.Links.{links-visit}
 use Rattle.romfs_check.specs.Known.{Walked}
 use Rattle.romfs_check.specs.Facts.{length-of, whole-volume}
 use Rattle.romfs_check.specs.Told.{verdictTold}

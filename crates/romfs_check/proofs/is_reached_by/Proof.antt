@@ -1,7 +1,7 @@
 use borrow.Author.Needs.{needs}
 use mathlib.Core.Path.{sym, subst, _∙_}
 use denote.Ref.{now}
-use Rattle.romfs_proofs.specs.Tested.{IsReached}
+use Rattle.romfs_facts.specs.Tested.{IsReached}
 use Rattle.romfs_check.specs.Marks.{mark-reached}
 use Rattle.romfs_check.proofs.Laws as laws
 use Rattle.romfs_check.proofs.is_reached_by.Statement.{statement}

@@ -3,7 +3,7 @@ use mathlib.Core.Path.{_≡_, refl, sym, _∙_}
 use mathlib.Core.Bool.{false}
 use denote.Ref.{now}
 use Rattle.romfs_spec.specs.Check.{badLink}
-use Rattle.romfs_proofs.specs.Facts.{has-list, no-list, empty-list, own-test}
+use Rattle.romfs_facts.specs.Facts.{has-list, no-list, empty-list, own-test}
 use borrow.Author.Needs.{needs}
 use Rattle.romfs_check.proofs.link_step.Statement.{statement}
 use Rattle.romfs_check.proofs.link_step.Tie as tie

@@ -1,7 +1,7 @@
 use Rattle.romfs_check.specs.Facts.{reach-room}
 use Prim.Native.Nat.{_-_}
 use native.Mathlib.Omega.{arith}
-use Rattle.romfs_proofs.specs.Tested.{IsReached}
+use Rattle.romfs_facts.specs.Tested.{IsReached}
 use Rattle.romfs_check.proofs.Laws as laws
 use Rattle.romfs_check.proofs.seek_from.Statement.{statement}
 use Rattle.romfs_check.proofs.seek_from.Tie as tie

@@ -5,7 +5,7 @@ use mathlib.Core.Bool.{true, false}
 use denote.Ref.{now}
 use Rattle.romfs_spec.specs.Layout.{next, descends}
 use Rattle.romfs_spec.specs.Check.{leads}
-use Rattle.romfs_proofs.specs.Seek.{towards-next, towards-first, towards-leaf, towards-past}
+use Rattle.romfs_facts.specs.Seek.{towards-next, towards-first, towards-leaf, towards-past}
 use Rattle.romfs_check.proofs.Laws as laws
 use Rattle.romfs_check.proofs.step_towards.Statement.{statement}
 use Rattle.romfs_check.proofs.step_towards.Tie as tie

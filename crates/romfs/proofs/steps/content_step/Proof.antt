@@ -7,7 +7,7 @@ use denote.Ref.{now}
 use Rattle.romfs_spec.specs.Layout.{contentAt}
 use Rattle.romfs_spec.specs.Check.{isReached}
 use Rattle.romfs_spec.specs.Requests.{granted, contentStep, startOf}
-use Rattle.romfs_proofs.specs.Seek.{is-reached}
+use Rattle.romfs_facts.specs.Seek.{is-reached}
 use Rattle.romfs_check.specs.Known.{Walked}
 use Rattle.romfs_check.specs.Facts.{reach-room}
 use Rattle.romfs.proofs.Laws as laws

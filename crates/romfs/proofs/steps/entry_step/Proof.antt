@@ -4,9 +4,9 @@ use mathlib.Core.Path.{_≡_, refl, sym, _∙_}
 use mathlib.Core.Bool.{true}
 use native.Mathlib.Omega.{arith}
 use denote.Ref.{now}
-use Rattle.romfs_proofs.specs.Tested.{IsReached}
+use Rattle.romfs_facts.specs.Tested.{IsReached}
 use Rattle.romfs_spec.specs.Check.{isReached}
-use Rattle.romfs_proofs.specs.Seek.{is-reached}
+use Rattle.romfs_facts.specs.Seek.{is-reached}
 use Rattle.romfs_check.specs.Known.{Walked}
 use Rattle.romfs_check.specs.Facts.{reach-room}
 use Rattle.romfs.proofs.Laws as laws

@@ -4,9 +4,9 @@ use native.Mathlib.Omega.{arith}
 use mathlib.Core.Path.{_≡_, sym, subst, _∙_}
 use mathlib.Core.Bool.{true}
 use denote.Ref.{now}
-use Rattle.romfs_proofs.specs.Tested.{IsReached}
+use Rattle.romfs_facts.specs.Tested.{IsReached}
 use Rattle.romfs_spec.specs.Requests.{isDirectory}
-use Rattle.romfs_proofs.specs.Given.{first-reached}
+use Rattle.romfs_facts.specs.Given.{first-reached}
 use Rattle.romfs_check.specs.Known.{Walked}
 use Rattle.romfs.proofs.Laws as laws
 use Rattle.romfs.proofs.steps.find_step.Statement.{statement}

@@ -1,7 +1,7 @@
 use mathlib.Core.Path.{sym, _∙_}
 use Rattle.romfs_check.specs.Facts.{full-at-least}
 use Rattle.romfs.proofs.Laws as laws
-use Rattle.romfs_proofs.specs.Given.{first-info, dir-is}
+use Rattle.romfs_facts.specs.Given.{first-info, dir-is}
 use Rattle.romfs.proofs.steps.first_of.Statement.{statement}
 use Rattle.romfs.proofs.steps.first_of.Tie as tie
 

@@ -1,6 +1,6 @@
 use borrow.Author.Tests.{not-true, not-false}
 use mathlib.Core.Path.{sym, _∙_}
-use Rattle.romfs_proofs.specs.Seek.{is-reached}
+use Rattle.romfs_facts.specs.Seek.{is-reached}
 use Rattle.romfs.proofs.Laws as laws
 use borrow.Author.Needs.{needs}
 use Rattle.romfs.proofs.steps.is_directory.Statement.{statement}

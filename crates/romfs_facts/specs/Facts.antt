@@ -11,7 +11,7 @@ use lib.Dec.{leb, ltb, eqb}
 use Rattle.list_laws.specs.Test.{or-no-l, or-no-r}
 use Rattle.romfs_spec.specs.Layout.{afterName, next, info, contentAt, endOf, own, descends, hasList}
 use Rattle.romfs_spec.specs.Check.{accepted, broken, overBound, badHeader, badNext, badFirst, badNesting, tooDeep, fault, badName, badSum, badInfo, badSize}
-use Rattle.romfs_proofs.specs.Tested.{Sound}
+use Rattle.romfs_facts.specs.Tested.{Sound}
 
 -- ---- Booleans
 pub or-yes : (a b : Bool) → (a || b) ≡ true → (a ≡ true) ⊎ (b ≡ true)

@@ -9,9 +9,9 @@ use native.Mathlib.Decide.{ℕ-discrete}
 use native.Mathlib.Numerals.{sub-one}
 use Rattle.romfs_spec.specs.Layout.{next, info, own, hasList}
 use Rattle.romfs_spec.specs.Check.{Verdict, accepted, broken, visitList, visitEntry}
-use Rattle.romfs_proofs.specs.Tested.{Sound}
-use Rattle.romfs_proofs.specs.Facts.{room, next-from, next-to, own-next, first-to, depth-to, true-false}
-use Rattle.romfs_proofs.specs.Visit.{From, here, along, inside, Cases, same, later, below, cases, lies, not-both, list-refused, list-last, list-next, listOf, entry-refused, entry-leaf, entry-list, all}
+use Rattle.romfs_facts.specs.Tested.{Sound}
+use Rattle.romfs_facts.specs.Facts.{room, next-from, next-to, own-next, first-to, depth-to, true-false}
+use Rattle.romfs_facts.specs.Visit.{From, here, along, inside, Cases, same, later, below, cases, lies, not-both, list-refused, list-last, list-next, listOf, entry-refused, entry-leaf, entry-list, all}
 
 pub data Out (v : Verdict) : Type 0 where
   fine : v ≡ accepted → Out v

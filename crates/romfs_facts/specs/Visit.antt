@@ -9,8 +9,8 @@ use native.Mathlib.Numerals.{sub-one}
 use borrow.Author.Tests.{eq-eqb, ne-eqb}
 use Rattle.romfs_spec.specs.Layout.{next, info, own, hasList}
 use Rattle.romfs_spec.specs.Check.{Verdict, accepted, broken, andThen, visitList, visitEntry}
-use Rattle.romfs_proofs.specs.Tested.{Sound}
-use Rattle.romfs_proofs.specs.Facts.{room, next-from, next-to, own-to, first-from, first-to, depth-to}
+use Rattle.romfs_facts.specs.Tested.{Sound}
+use Rattle.romfs_facts.specs.Facts.{room, next-from, next-to, own-to, first-from, first-to, depth-to}
 
 -- ---- headers that sound ones lead to, from p on
 pub data From (s : List ℕ) (p bound depth : ℕ) : ℕ → ℕ → ℕ → Type 0 where

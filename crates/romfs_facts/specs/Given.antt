@@ -11,13 +11,13 @@ use lib.ListN.{length}
 use lib.Dec.{eqb}
 use Rattle.romfs_spec.specs.Layout.{fullSize, firstRoot, fileType, info, size, own, contentAt, endOf, isDots, descends, hasData}
 use Rattle.romfs_spec.specs.Check.{Verdict, accepted, broken, isReached, check}
-use Rattle.romfs_proofs.specs.Tested.{root, inside, IsReached, Sound}
+use Rattle.romfs_facts.specs.Tested.{root, inside, IsReached, Sound}
 use Rattle.romfs_spec.specs.Requests.{granted, refused, checked, firstOf, isDirectory, contentStep, contentLength}
-use Rattle.romfs_proofs.specs.Facts.{or-yes, and-yes-l, and-yes-r, ends}
-use Rattle.romfs_proofs.specs.Lowest.{yes-no}
-use Rattle.romfs_proofs.specs.Walked.{volume-of, full-to, reached-in}
-use Rattle.romfs_proofs.specs.Seek.{is-reached}
-use Rattle.romfs_proofs.specs.Theorems.{check-accepted, check-parts}
+use Rattle.romfs_facts.specs.Facts.{or-yes, and-yes-l, and-yes-r, ends}
+use Rattle.romfs_facts.specs.Lowest.{yes-no}
+use Rattle.romfs_facts.specs.Walked.{volume-of, full-to, reached-in}
+use Rattle.romfs_facts.specs.Seek.{is-reached}
+use Rattle.romfs_facts.specs.Theorems.{check-accepted, check-parts}
 
 -- ---- find
 first-root : (s : List ℕ) (dir : ℕ) → dir ≡ 0 → firstOf s dir ≢ 0 → IsReached s (firstOf s dir)

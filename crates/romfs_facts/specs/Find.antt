@@ -13,13 +13,13 @@ use Rattle.lists.specs.Lists.{sameList}
 use Rattle.list_laws.specs.Test.{same-eq, same-refl, of-true, to-true}
 use Rattle.romfs_spec.specs.Layout.{fullSize, next, name}
 use Rattle.romfs_spec.specs.Check.{accepted, walk, check}
-use Rattle.romfs_proofs.specs.Tested.{along, IsReached}
+use Rattle.romfs_facts.specs.Tested.{along, IsReached}
 use Rattle.romfs_spec.specs.Requests.{Answer, granted, refused, firstOf, matchFrom, matchIn, isDirectory, findStep, find}
-use Rattle.romfs_proofs.specs.Facts.{true-false, room, next-from}
-use Rattle.romfs_proofs.specs.Lowest.{yes-no}
-use Rattle.romfs_proofs.specs.Walked.{Volume, volume-of, sound, reached-room}
-use Rattle.romfs_proofs.specs.Theorems.{check-parts}
-use Rattle.romfs_proofs.specs.Given.{first-reached}
+use Rattle.romfs_facts.specs.Facts.{true-false, room, next-from}
+use Rattle.romfs_facts.specs.Lowest.{yes-no}
+use Rattle.romfs_facts.specs.Walked.{Volume, volume-of, sound, reached-room}
+use Rattle.romfs_facts.specs.Theorems.{check-parts}
+use Rattle.romfs_facts.specs.Given.{first-reached}
 
 -- q is an entry of the list from p on
 pub data InList (s : List ℕ) (p : ℕ) : ℕ → Type 0 where

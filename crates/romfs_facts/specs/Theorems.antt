@@ -8,13 +8,13 @@ use native.Mathlib.Omega.{arith}
 use native.Mathlib.Decide.{ℕ-discrete, decLt}
 use Rattle.romfs_spec.specs.Layout.{fullSize, firstRoot, next, info, own, hasList}
 use Rattle.romfs_spec.specs.Check.{Verdict, accepted, broken, tooShort, badMagic, badFullSize, badVolumeSum, badVolumeName, fault, andThen, walk, badLink, links, volume, check}
-use Rattle.romfs_proofs.specs.Tested.{Reached, IsReached, Sound, Linked, Accepted}
-use Rattle.romfs_proofs.specs.Facts.{room, next-from, next-to, own-next, first-from, first-to, true-false, fault-sound, sound-fault, fault-place, fault-number}
-use Rattle.romfs_proofs.specs.Visit.{From, Cases, same, later, below, cases, lies, not-both, then-accepted}
-use Rattle.romfs_proofs.specs.Lowest.{lowest, Out, fine, fails, out, yes-no}
-use Rattle.romfs_proofs.specs.Walked.{Volume, volume-of, of-volume, root-in, has-root, met, Met, met-reached, all-met, sound, visit-none, visit-root, reached-in}
-use Rattle.romfs_proofs.specs.Seek.{is-reached, reached-is}
-use Rattle.romfs_proofs.specs.Links.{linked-of, of-linked, links-none, links-at, links-clear, LowestLink, links-lowest}
+use Rattle.romfs_facts.specs.Tested.{Reached, IsReached, Sound, Linked, Accepted}
+use Rattle.romfs_facts.specs.Facts.{room, next-from, next-to, own-next, first-from, first-to, true-false, fault-sound, sound-fault, fault-place, fault-number}
+use Rattle.romfs_facts.specs.Visit.{From, Cases, same, later, below, cases, lies, not-both, then-accepted}
+use Rattle.romfs_facts.specs.Lowest.{lowest, Out, fine, fails, out, yes-no}
+use Rattle.romfs_facts.specs.Walked.{Volume, volume-of, of-volume, root-in, has-root, met, Met, met-reached, all-met, sound, visit-none, visit-root, reached-in}
+use Rattle.romfs_facts.specs.Seek.{is-reached, reached-is}
+use Rattle.romfs_facts.specs.Links.{linked-of, of-linked, links-none, links-at, links-clear, LowestLink, links-lowest}
 
 -- ---- the walk
 -- n is the fault of the lowest header at fault among those that sound headers lead to, and stands at p

@@ -13,12 +13,12 @@ use Rattle.lists.specs.Lists.{least}
 use Rattle.list_laws.specs.Least.{least-is, least-all, least-hit, least-none, least-below}
 use Rattle.romfs_spec.specs.Layout.{fullSize, firstRoot, fileType, info, isDots}
 use Rattle.romfs_spec.specs.Check.{Verdict, accepted, broken, visitAll, walk, isReached, badLink, links}
-use Rattle.romfs_proofs.specs.Tested.{Reached, root, along, inside, IsReached, Linked}
-use Rattle.romfs_proofs.specs.Facts.{and-no, and-yes-l, and-yes-r, both, true-false, list-descends, list-first}
-use Rattle.romfs_proofs.specs.Visit.{not-both}
-use Rattle.romfs_proofs.specs.Lowest.{Lowest, lowest, Out, fine, fails, out, yes-no}
-use Rattle.romfs_proofs.specs.Walked.{Volume, root-in, has-root, met, all-met, sound, visit-none, visit-root, reached-in}
-use Rattle.romfs_proofs.specs.Seek.{is-reached, reached-is}
+use Rattle.romfs_facts.specs.Tested.{Reached, root, along, inside, IsReached, Linked}
+use Rattle.romfs_facts.specs.Facts.{and-no, and-yes-l, and-yes-r, both, true-false, list-descends, list-first}
+use Rattle.romfs_facts.specs.Visit.{not-both}
+use Rattle.romfs_facts.specs.Lowest.{Lowest, lowest, Out, fine, fails, out, yes-no}
+use Rattle.romfs_facts.specs.Walked.{Volume, root-in, has-root, met, all-met, sound, visit-none, visit-root, reached-in}
+use Rattle.romfs_facts.specs.Seek.{is-reached, reached-is}
 
 -- ---- a bad link is one that is not linked
 or-false : (a b : Bool) → a ≡ false → b ≡ false → (a || b) ≡ false

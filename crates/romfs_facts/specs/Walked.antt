@@ -11,10 +11,10 @@ use lib.Dec.{ltb, eqb}
 use Rattle.list_laws.specs.Test.{or-no-l, or-no-r}
 use Rattle.romfs_spec.specs.Layout.{fullSize, firstRoot, afterName, nameLength, nameEnds}
 use Rattle.romfs_spec.specs.Check.{Verdict, accepted, broken, tooShort, badMagic, badFullSize, badVolumeSum, badVolumeName, fault, visitList, visitEntry, visitAll, walk, volume}
-use Rattle.romfs_proofs.specs.Tested.{Reached, root, along, inside, Sound}
-use Rattle.romfs_proofs.specs.Facts.{has-list, list-descends, list-first, fault-sound, room, ends}
-use Rattle.romfs_proofs.specs.Visit as visit
-use Rattle.romfs_proofs.specs.Visit.{From, lies, all, not-both}
+use Rattle.romfs_facts.specs.Tested.{Reached, root, along, inside, Sound}
+use Rattle.romfs_facts.specs.Facts.{has-list, list-descends, list-first, fault-sound, room, ends}
+use Rattle.romfs_facts.specs.Visit as visit
+use Rattle.romfs_facts.specs.Visit.{From, lies, all, not-both}
 
 -- ---- 21 to 25
 -- none of 21 to 25 holds

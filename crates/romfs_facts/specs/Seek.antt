@@ -11,11 +11,11 @@ use borrow.Author.Tests.{eq-eqb, ne-eqb, le-leb, lt-leb}
 use lib.Dec.{leb, eqb}
 use Rattle.romfs_spec.specs.Layout.{fullSize, firstRoot, next, info, own, descends, hasList}
 use Rattle.romfs_spec.specs.Check.{accepted, walk, leads, towards, seek, isReached}
-use Rattle.romfs_proofs.specs.Tested.{root, along, inside, IsReached, Sound}
-use Rattle.romfs_proofs.specs.Facts.{both, and-yes-l, true-false, not-eqb, has-list, list-descends, list-first, room, next-from, next-to, own-next, first-from, first-to}
-use Rattle.romfs_proofs.specs.Visit.{From, Cases, same, later, below, cases, lies}
-use Rattle.romfs_proofs.specs.Lowest.{yes-no}
-use Rattle.romfs_proofs.specs.Walked.{Volume, root-in, root-from, has-root, met, Met}
+use Rattle.romfs_facts.specs.Tested.{root, along, inside, IsReached, Sound}
+use Rattle.romfs_facts.specs.Facts.{both, and-yes-l, true-false, not-eqb, has-list, list-descends, list-first, room, next-from, next-to, own-next, first-from, first-to}
+use Rattle.romfs_facts.specs.Visit.{From, Cases, same, later, below, cases, lies}
+use Rattle.romfs_facts.specs.Lowest.{yes-no}
+use Rattle.romfs_facts.specs.Walked.{Volume, root-in, root-from, has-root, met, Met}
 
 -- ---- one law for each way through the search
 module _ (s : List ℕ) (want : ℕ) where

@@ -1,0 +1,10 @@
+pub mod Tested
+pub mod Facts
+pub mod Visit
+pub mod Lowest
+pub mod Walked
+pub mod Seek
+pub mod Links
+pub mod Theorems
+pub mod Given
+pub mod Find

@@ -1,0 +1,1 @@
+// Facts on the romfs definitions that code and proofs use. No code: see specs/.
