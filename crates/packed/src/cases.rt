@@ -1,6 +1,8 @@
 // A case: a request with its arguments, and the outcome that it is to have. host/generate/src/bin/pack.rs has the form.
+ghost use mathlib.Core.Path.{_≡_};
 ghost use Prim.Native.Nat.{_≤_};
-ghost use lib.ListN.{length};
+ghost use lib.ListN.{length, set};
+ghost use Rattle.packed.specs.Cases.{outcome, zeros};
 use crate::lines::number;
 use crate::lines::text;
 
@@ -24,7 +26,9 @@ pub struct Outcome {
 
 // ---- what a request gives
 
-pub fn refused(refusal: u32, place: u32) -> Outcome {
+pub fn refused(refusal: u32, place: u32) -> Outcome
+    ensures { λ r. ⌜ r ≡ outcome refusal place 0 zeros ⌝ }
+{
     Outcome {
         refusal: refusal,
         place: place,
@@ -33,7 +37,9 @@ pub fn refused(refusal: u32, place: u32) -> Outcome {
     }
 }
 
-pub fn granted(count: u32, values: [u32; 6]) -> Outcome {
+pub fn granted(count: u32, values: [u32; 6]) -> Outcome
+    ensures { λ r. ⌜ r ≡ outcome 0 0 count values ⌝ }
+{
     Outcome {
         refusal: 0,
         place: 0,
@@ -43,12 +49,16 @@ pub fn granted(count: u32, values: [u32; 6]) -> Outcome {
 }
 
 // Granted, with nothing to tell.
-pub fn done() -> Outcome {
+pub fn done() -> Outcome
+    ensures { λ r. ⌜ r ≡ outcome 0 0 0 zeros ⌝ }
+{
     granted(0, [0, 0, 0, 0, 0, 0])
 }
 
 // Granted, with one number.
-pub fn one(value: u32) -> Outcome {
+pub fn one(value: u32) -> Outcome
+    ensures { λ r. ⌜ r ≡ outcome 0 0 1 (set zeros 0 value) ⌝ }
+{
     granted(1, [value, 0, 0, 0, 0, 0])
 }
 
