@@ -15,7 +15,7 @@ use Rattle.romfs_spec.specs.Layout.{fullSize, firstRoot, nameLength, nameEnds, 
 use Rattle.romfs_spec.specs.Check.{accepted, isReached, check}
 use Rattle.romfs_spec.specs.Requests.{Answer, granted, refused, checked, firstOf, matchIn, isDirectory, findStep, find, Entry, entryAt, entryStep, entry, contentStep, contentLength, content, contentStart}
 use Rattle.romfs_spec.specs.Accepted.{full, ZeroAfter, sizeAt, IsReached, Accepted}
-use Rattle.romfs_spec.specs.Statements as book
+use Rattle.romfs_spec.specs.Statements as statements
 use Rattle.romfs_spec.specs.Statements.{Answered, refusal, at31, fits, Directory, FirstGiven, InList, FirstMatch, Finds, FindSays, EntryIs, EntrySays, HasContent, ContentIs, ContentSays}
 use Rattle.romfs_facts.specs.Tested as test
 use Rattle.romfs_facts.specs.Facts.{both, either, or-yes, and-yes-l, and-yes-r, true-false}
@@ -184,26 +184,26 @@ first-of s dir a =
     let f = root-first s (volume-named s (volume s a)) in
     elim (ℕ-discrete dir 0) [
       | yes z ↦ elim (ℕ-discrete (firstRoot s) (fullSize s)) [
-        | yes e ↦ rw (eq-eqb dir 0 z, eq-eqb (firstRoot s) (fullSize s) e) (book.empty z (rw (e, full-is s) at f))
-        | no e ↦ rw (eq-eqb dir 0 z, ne-eqb (firstRoot s) (fullSize s) e) (book.root z f (λ y. e (y ∙ sym (full-is s))))
+        | yes e ↦ rw (eq-eqb dir 0 z, eq-eqb (firstRoot s) (fullSize s) e) (statements.empty z (rw (e, full-is s) at f))
+        | no e ↦ rw (eq-eqb dir 0 z, ne-eqb (firstRoot s) (fullSize s) e) (statements.root z f (λ y. e (y ∙ sym (full-is s))))
       ]
-      | no z ↦ rw (ne-eqb dir 0 z, info-is s dir) (book.word z)
+      | no z ↦ rw (ne-eqb dir 0 z, info-is s dir) (statements.word z)
     ]
 
 is-first : {s : List ℕ} {dir first : ℕ} → FirstGiven s dir first → firstOf s dir ≡ first
 unfolding firstOf
-is-first {s} {dir} (book.empty z e) = rw (eq-eqb dir 0 z, eq-eqb (firstRoot s) (fullSize s) (root-is s (full s) e ∙ sym (full-is s)))
-is-first {s} {dir} (book.root {p = p} z f e) = rw (eq-eqb dir 0 z, ne-eqb (firstRoot s) (fullSize s) (λ y. e (sym (root-is s p f) ∙ y ∙ full-is s))) (root-is s p f)
-is-first {s} {dir} (book.word z) = first-info s dir z ∙ info-is s dir
+is-first {s} {dir} (statements.empty z e) = rw (eq-eqb dir 0 z, eq-eqb (firstRoot s) (fullSize s) (root-is s (full s) e ∙ sym (full-is s)))
+is-first {s} {dir} (statements.root {p = p} z f e) = rw (eq-eqb dir 0 z, ne-eqb (firstRoot s) (fullSize s) (λ y. e (sym (root-is s p f) ∙ y ∙ full-is s))) (root-is s p f)
+is-first {s} {dir} (statements.word z) = first-info s dir z ∙ info-is s dir
 
 -- ---- find: the list
 in-list : {s : List ℕ} {p q : ℕ} → walk.InList s p q → InList s p q
-in-list walk.here = book.here
-in-list {s} {p} (walk.on {q = q} l z) = subst (InList s p) (sym (next-is s q)) (book.on (in-list l) (λ y. z (next-is s q ∙ y)))
+in-list walk.here = statements.here
+in-list {s} {p} (walk.on {q = q} l z) = subst (InList s p) (sym (next-is s q)) (statements.on (in-list l) (λ y. z (next-is s q ∙ y)))
 
 list-in : {s : List ℕ} {p q : ℕ} → InList s p q → walk.InList s p q
-list-in book.here = walk.here
-list-in {s} {p} (book.on {q = q} l z) = subst (walk.InList s p) (next-is s q) (walk.on (list-in l) (λ y. z (sym (next-is s q) ∙ y)))
+list-in statements.here = walk.here
+list-in {s} {p} (statements.on {q = q} l z) = subst (walk.InList s p) (next-is s q) (walk.on (list-in l) (λ y. z (sym (next-is s q) ∙ y)))
 
 finds-is : (s want : List ℕ) (first : ℕ) → check s ≡ accepted → (first ≢ 0 → test.IsReached s first) → (a : Answer ℕ) → walk.Finds s want first a → Finds s want first a
 finds-is s want first e r (granted p) f =

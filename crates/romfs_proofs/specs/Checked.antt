@@ -11,7 +11,7 @@ use Rattle.romfs_spec.specs.Layout.{pad16, fullSize, nameLength, nameEnds, afte
 use Rattle.romfs_spec.specs.Check.{accepted, broken, tooShort, badMagic, badFullSize, badVolumeSum, badVolumeName, badHeader, badNesting, tooDeep, fault, check}
 use Rattle.romfs_spec.specs.Accepted as plain
 use Rattle.romfs_spec.specs.Accepted.{SoundVolume, typeAt, nextAt, infoAt, HasList, RootFirst}
-use Rattle.romfs_spec.specs.Statements as book
+use Rattle.romfs_spec.specs.Statements as statements
 use Rattle.romfs_spec.specs.Statements.{Walked, HeaderFault, at26, at27, at28, FirstFault, FirstLink, Refused, at21, at22, at23, at24, at25, at-header, at-link}
 use Rattle.romfs_facts.specs.Tested as test
 use Rattle.romfs_facts.specs.Facts.{true-false, has-list, list-descends, list-first, sound-fault}
@@ -135,27 +135,27 @@ module _ (s : List ℕ) (v : Volume s) where
         }
 
   -- ---- headers that sound ones lead to
-  pub met-is : {p b d : ℕ} → firstRoot s ≢ fullSize s → Met s p b d → book.Met s p b d
+  pub met-is : {p b d : ℕ} → firstRoot s ≢ fullSize s → Met s p b d → statements.Met s p b d
   met-is z visit.here =
-      subst (λ (x : ℕ). book.Met s (firstRoot s) x 1) (sym (full-is s)) (book.root (root-first s (volume-named s v)) (λ y. z (y ∙ sym (full-is s))))
+      subst (λ (x : ℕ). statements.Met s (firstRoot s) x 1) (sym (full-is s)) (statements.root (root-first s (volume-named s v)) (λ y. z (y ∙ sym (full-is s))))
   met-is z (visit.along {q = p} {b = b} {d = d} m o n) =
-      subst (λ (x : ℕ). book.Met s x b d) (sym (next-is s p)) (book.along (met-is z m) (sound-is p b d o) (λ y. n (next-is s p ∙ y)))
+      subst (λ (x : ℕ). statements.Met s x b d) (sym (next-is s p)) (statements.along (met-is z m) (sound-is p b d o) (λ y. n (next-is s p ∙ y)))
   met-is z (visit.inside {q = p} {b = b} {d = d} m o t) =
       let h : plain.Sound s p b d = sound-is p b d o in
-      subst (λ (x : ℕ). book.Met s x (own s b p) (suc d)) (sym (info-is s p))
-      (book.inside (met-is z m) h (has-list-is s inside p (sound-ends p b d h) .0 t) (own-of s p b))
+      subst (λ (x : ℕ). statements.Met s x (own s b p) (suc d)) (sym (info-is s p))
+      (statements.inside (met-is z m) h (has-list-is s inside p (sound-ends p b d h) .0 t) (own-of s p b))
 
-  pub has-root : {p b d : ℕ} → book.Met s p b d → firstRoot s ≢ fullSize s
-  has-root (book.root {p = p} f z) = λ y. z (sym (root-is s p f) ∙ y ∙ full-is s)
-  has-root (book.along m o n) = has-root m
-  has-root (book.inside m o u w) = has-root m
+  pub has-root : {p b d : ℕ} → statements.Met s p b d → firstRoot s ≢ fullSize s
+  has-root (statements.root {p = p} f z) = λ y. z (sym (root-is s p f) ∙ y ∙ full-is s)
+  has-root (statements.along m o n) = has-root m
+  has-root (statements.inside m o u w) = has-root m
 
-  pub is-met : {p b d : ℕ} → book.Met s p b d → Met s p b d
-  is-met (book.root {p = p} f z) =
+  pub is-met : {p b d : ℕ} → statements.Met s p b d → Met s p b d
+  is-met (statements.root {p = p} f z) =
       subst (λ (x : ℕ). Met s p x 1) (full-is s) (subst (λ (x : ℕ). Met s x (fullSize s) 1) (root-is s p f) visit.here)
-  is-met (book.along {p = p} {bound = b} {depth = d} m o n) =
+  is-met (statements.along {p = p} {bound = b} {depth = d} m o n) =
       subst (λ (x : ℕ). Met s x b d) (next-is s p) (visit.along (is-met m) (is-sound p b d o) (λ y. n (sym (next-is s p) ∙ y)))
-  is-met (book.inside {p = p} {bound = b} {depth = d} m o u w) =
+  is-met (statements.inside {p = p} {bound = b} {depth = d} m o u w) =
       subst (λ (x : ℕ). Met s (infoAt s p) x (suc d)) (own-is w)
       (subst (λ (x : ℕ). Met s x (own s b p) (suc d)) (info-is s p) (visit.inside (is-met m) (is-sound p b d o) (has-list-is s inside p (sound-ends p b d o) .1 u)))
 

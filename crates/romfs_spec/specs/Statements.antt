@@ -56,7 +56,7 @@ check-accepted = (s : List ℕ) → (check s ≡ accepted) ↔ Accepted s
 abbrev pub Walked : List ℕ → Type 0
 Walked s = SoundVolume s × ((p b d : ℕ) → Reached s p b d → Sound s p b d)
 
--- A reached header lies before its list's bound, which for an inner list is its directory's next or an outer bound, and that before F.
+-- A reached header lies before its list's bound, which for an inner list is its directory's next or an outer bound, which is at most F.
 abbrev pub reached-lies : Type 0
 reached-lies = (s : List ℕ) (p b d : ℕ) → Walked s → Reached s p b d → (32 ≤ p) × (p % 16 ≡ 0) × (p < b) × (b ≤ full s)
 

@@ -1,21 +1,15 @@
 -- Each statement of tfs_spec has its proof here, under its own name.
-use mathlib.Core.Path.{_≡_, refl, sym, _∙_, subst}
-use Prim.Native.Nat.{ℕ, _*_, _≤_}
-use mathlib.Core.List.{List}
+use Rattle.tfs_spec.specs.Statements as statements
+use mathlib.Core.Path.{refl, sym, _∙_, subst}
 use native.Mathlib.Omega.{arith}
-use lib.ListN.{length}
 use lib.Dec.{T}
-use Rattle.tfs_spec.specs.Layout.{BlockSize, labelAllowed}
+use Rattle.tfs_spec.specs.Layout.{labelAllowed}
 use Rattle.tfs_spec.specs.View.{view}
 use Rattle.tfs_spec.specs.Check.{check}
-use Rattle.tfs_spec.specs.Consistent.{Consistent}
-use Rattle.tfs_spec.specs.Requests.{Answer, value, granted, format, checkAnswer, read, writes, perform, reads, changes}
-use Rattle.tfs_spec.specs.Offsets.{Bytes, LayoutLaws, NameLaws, NumberLaws}
-use Rattle.tfs_spec.specs.Answers.{LabelRule, unhandled, CheckLaws, RefusalLaws, GrantLaws}
-use Rattle.tfs_spec.specs.Effects.{ContentLaws, ChangeLaws, TouchLaws, FormatLaws, ReadLaws, KeptLaws, ByteLaws, RoomLaws}
-use Rattle.tfs_spec.specs.Handles.{HandleLaws}
-use Rattle.tfs_spec.specs.Laws.{RequestLaws}
+use Rattle.tfs_spec.specs.Requests.{Answer, granted, format, checkAnswer, writes, perform, reads, changes}
+use Rattle.tfs_spec.specs.Answers.{unhandled}
 use Rattle.tfs_facts.specs.CheckMeans.{check-means, check-breaks, same-means}
+use Rattle.tfs_facts.specs.Sizes.{size-512}
 use Rattle.tfs_facts.specs.Total.{adds-up}
 use Rattle.tfs_facts.specs.Views.{view-n}
 use Rattle.tfs_proofs.specs.Numbers as sizes
@@ -41,19 +35,20 @@ use Rattle.tfs_proofs.specs.CreateRemove.{back-law}
 use Rattle.tfs_proofs.specs.Orders.{orders-law}
 
 -- ---- Offsets
-pub layout-laws : (B : ℕ) → BlockSize B → (img : List ℕ) → 3 * B ≤ length img → LayoutLaws B img
+pub layout-laws : statements.layout-laws
 layout-laws = offsets.layout-laws
 
-pub name-laws : NameLaws
+pub name-laws : statements.name-laws
 name-laws = record { same = same-means }
 
-pub number-laws : NumberLaws
+pub number-laws : statements.number-laws
 number-laws =
     record {
       large = sizes.large;
       small = sizes.small;
       enough = sizes.enough;
       tight = sizes.tight;
+      base = size-512;
       volume = refl;
       directory = refl;
       inode = refl;
@@ -62,7 +57,7 @@ number-laws =
     }
 
 -- ---- Answers
-pub check-laws : (B : ℕ) → BlockSize B → (img : List ℕ) → CheckLaws B img
+pub check-laws : statements.check-laws
 unfolding checkAnswer
 check-laws B sz img =
     let means = check-means B sz img in
@@ -77,7 +72,7 @@ check-laws B sz img =
       refused-by-all = fault-reply B sz img;
     }
 
-pub refusal-laws : (B : ℕ) → BlockSize B → (img : List ℕ) → RefusalLaws B img
+pub refusal-laws : statements.refusal-laws
 refusal-laws B sz img =
     record {
       numbered = numbered B sz img;
@@ -87,7 +82,7 @@ refusal-laws B sz img =
       granted-or-refused = granted-or-refused;
     }
 
-pub grant-laws : (B : ℕ) → BlockSize B → (img : List ℕ) → GrantLaws B img
+pub grant-laws : statements.grant-laws
 grant-laws B sz img =
     record {
       answers = rule-reply B sz img;
@@ -98,7 +93,7 @@ grant-laws B sz img =
     }
 
 -- ---- Effects
-pub content-laws : (B : ℕ) → BlockSize B → (img : List ℕ) → Consistent B img → ContentLaws B img
+pub content-laws : statements.content-laws
 content-laws B sz img ok =
     record {
       long = length-content B (view B img) img;
@@ -107,14 +102,14 @@ content-laws B sz img ok =
       absent = λ nm none. stands-not B img nm (fresh-high B (view B img) nm none);
     }
 
-pub change-laws : (B : ℕ) → BlockSize B → (img : List ℕ) → Consistent B img → ChangeLaws B img
+pub change-laws : statements.change-laws
 change-laws B sz img ok =
     record { stays = stays-consistent B sz img ok; changes = λ c g. changed B sz img ok c g .contents; name-on = name-on B sz img ok }
 
-pub touch-laws : (B : ℕ) → BlockSize B → (img : List ℕ) → Consistent B img → TouchLaws B img
+pub touch-laws : statements.touch-laws
 touch-laws B sz img ok = record { created = create-touches B sz img ok; removed = remove-touches B sz img ok }
 
-pub format-laws : (B : ℕ) → BlockSize B → (img label : List ℕ) → 3 * B ≤ length img → LabelRule label → FormatLaws B img label
+pub format-laws : statements.format-laws
 format-laws B sz img label h l =
     let t : T (labelAllowed label) = label-allowed label .1 l in
     let g : T (granted (format B img label .answer)) = subst (λ (a : Answer). T (granted a)) (sym (format-grants sz img label h t)) tt in
@@ -130,10 +125,10 @@ format-laws B sz img label h l =
       long = format-length sz img label;
     }
 
-pub read-laws : (B : ℕ) (img : List ℕ) (h o : ℕ) (buf : List ℕ) (c : ℕ) → read B img h o buf .answer ≡ value c → ReadLaws B img h o buf c
+pub read-laws : statements.read-laws
 read-laws = read-law
 
-pub kept-laws : (B : ℕ) → BlockSize B → (img : List ℕ) → KeptLaws B img
+pub kept-laws : statements.kept-laws
 kept-laws B sz img =
     record {
       kept = kept B sz img;
@@ -145,7 +140,7 @@ kept-laws B sz img =
       tail-format = λ b same label. (tail-unread sz img b same .format-answer label, tail-unread sz img b same .formatted label);
     }
 
-pub byte-laws : (B : ℕ) → BlockSize B → B ≤ 65536 → (img : List ℕ) → Bytes img → ByteLaws B img
+pub byte-laws : statements.byte-laws
 byte-laws B sz small img bytes =
     record {
       formatted = stay.format-bytes B sz img bytes;
@@ -155,7 +150,7 @@ byte-laws B sz small img bytes =
       read-into = stay.read-bytes B sz img bytes;
     }
 
-pub room-laws : (B : ℕ) → BlockSize B → (img : List ℕ) → Consistent B img → RoomLaws B img
+pub room-laws : statements.room-laws
 unfolding perform
 room-laws B sz img ok =
     record {
@@ -166,7 +161,7 @@ room-laws B sz img ok =
     }
 
 -- ---- Handles
-pub handle-laws : (B : ℕ) → BlockSize B → (img : List ℕ) → Consistent B img → HandleLaws B img
+pub handle-laws : statements.handle-laws
 unfolding perform
 handle-laws B sz img ok =
     record {
@@ -183,7 +178,7 @@ handle-laws B sz img ok =
     }
 
 -- ---- Laws
-pub request-laws : (B : ℕ) → BlockSize B → (img : List ℕ) → Consistent B img → RequestLaws B img
+pub request-laws : statements.request-laws
 request-laws B sz img ok =
     record {
       writes = writes-law B (omega (arith, sz .large)) img (check-means B sz img .1 ok) (ok .sound);

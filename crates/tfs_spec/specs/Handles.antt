@@ -35,7 +35,6 @@ abbrev pub NoneGives : ℕ → List ℕ → ℕ → List Change → Type 0
 NoneGives B img h [] = Unit {0}
 NoneGives B img h (c ∷ cs) = (GivesHandle B img h c → ⊥) × NoneGives B (perform B img c .image) h cs
 
--- of a consistent volume
 pub record HandleLaws (B : ℕ) (img : List ℕ) : Type 0 where
   -- open's and create's handles mean the named file
   pub opened : (nm : List ℕ) (h : ℕ) → openAnswer B img nm ≡ value h → MeansFile B (view B img) h nm

@@ -95,7 +95,6 @@ pub record BothOrders (B : ℕ) (img : List ℕ) (a b : Change) : Type 0 where
   pub first-b : T (granted (perform B img b .answer))
   pub then-a : T (granted (perform B (perform B img b .image) a .answer))
 
--- of a consistent volume
 pub record RequestLaws (B : ℕ) (img : List ℕ) : Type 0 where
   pub writes : (ws : List Write) → WritesLaw B img ws
   -- what it is to cover in it: granted with the count c, to the file in slot s, at an offset from which c bytes reach p

@@ -1,4 +1,4 @@
--- The TFS layout, over the block size B: 512 at the base.
+-- The TFS layout, over the block size B: 512 in all requests.
 use mathlib.Core.Path.{_≡_}
 use mathlib.Core.Bool.{Bool, _&&_}
 use Prim.Native.Nat.{ℕ, _+_, _-_, _*_, _/_, _%_, _≤_, min}
@@ -7,7 +7,7 @@ use lib.ListN.{length, getD, drop, set}
 use lib.Dec.{leb, ltb, eqb}
 use Rattle.lists.specs.Lists.{sameList, allZero, firstZero, upToZero, padTo, word, bytes4, words, bitOf, withBit, part, withPart}
 
--- block sizes for which the laws hold: 512 or larger, and whole 32-bit words
+-- block sizes of the statements: 512 or larger, and whole 32-bit words
 pub record BlockSize (B : ℕ) : Type 0 where
   pub large : 512 ≤ B
   pub whole : B % 4 ≡ 0

@@ -8,3 +8,4 @@ pub mod Answers
 pub mod Effects
 pub mod Handles
 pub mod Laws
+pub mod Statements

@@ -73,6 +73,7 @@ pub record NumberLaws : Type 0 where
   -- ⌈size/512⌉: enough blocks, and no block more
   pub enough : (B : ℕ) → BlockSize B → (z : ℕ) → z ≤ need B z * B
   pub tight : (B : ℕ) → BlockSize B → (z : ℕ) → need B z * B < z + B
+  pub base : BlockSize 512
   -- "4096", "25 slots", "127 block numbers", "Largest file 65,024 bytes"
   pub volume : maxBlocks 512 ≡ 4096
   pub directory : slots 512 ≡ 25

@@ -252,7 +252,7 @@ pub record Reply : Type 0 where
   pub image : List ℕ
   pub buffer : List ℕ
 
--- the buffer that a request lends for writing
+-- the buffer that is lent for writing
 abbrev pub lent : Request → List ℕ
 lent (changes c) = []
 lent checks = []
