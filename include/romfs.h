@@ -4,7 +4,7 @@
  * Every request takes the whole image as a pointer and a length, of any
  * content and any length, and answers by value. Nothing is written. No
  * allocation, no global state; recursion is at most eight lists deep, under
- * 16 KiB of stack for any image. The library needs memset, and uses SSE
+ * 16 KiB of stack as measured. The library needs memset, and uses SSE
  * registers.
  *
  * What the caller must keep to:
@@ -33,9 +33,9 @@ extern "C" {
  * first fault of the check is given, with its place. */
 enum romfs_refusal {
     ROMFS_OK = 0,
-    ROMFS_TOO_SHORT = 21,       /* slice under 32 bytes */
+    ROMFS_TOO_SHORT = 21,       /* image under 32 bytes */
     ROMFS_BAD_MAGIC = 22,       /* not "-rom1fs-" */
-    ROMFS_BAD_FULL_SIZE = 23,   /* full size under 32, over the slice, or no multiple of 16 */
+    ROMFS_BAD_FULL_SIZE = 23,   /* full size under 32, over the image, or no multiple of 16 */
     ROMFS_BAD_VOLUME_SUM = 24,  /* sum of the first min(512, full size) bytes not 0 */
     ROMFS_BAD_VOLUME_NAME = 25, /* volume name without an end */
     ROMFS_BAD_HEADER = 26,      /* end, name, checksum, spec.info or size; place: header */

@@ -3,8 +3,8 @@
  *
  * Every request takes the whole image as a pointer and a length, of any
  * content and any length, and answers by value. No allocation, no global
- * state, no recursion, under 4 KiB of stack. The library needs memcpy and
- * memset, and uses SSE registers.
+ * state, no recursion, under 4 KiB of stack as measured. The library needs
+ * memcpy and memset, and uses SSE registers.
  *
  * What the caller must keep to:
  *  - a pointer is valid for the length beside it: readable where it is const,
