@@ -294,7 +294,7 @@ refused-is {s} (theorems.at23 a b c) = at23 (short-fails s .0 a) (magic-fails s 
 refused-is {s} (theorems.at24 a b c d) = at24 (short-fails s .0 a) (magic-fails s .0 b) (full-fails s .0 c) (denies (badVolumeSum s) (sum-fails s) d)
 refused-is {s} (theorems.at25 a b c d e) = at25 (short-fails s .0 a) (magic-fails s .0 b) (full-fails s .0 c) (sum-fails s .0 d) (denies (badVolumeName s) (volume-name-fails s) e)
 refused-is {s} (theorems.at-header v f) = at-header (volume-is s v) (first-fault-is s v f)
-refused-is {s} (theorems.at-link v h f) = at-link (volume-is s v) (sound-all s v h) (first-link-is s v (test-ends s v h) f)
+refused-is {s} (theorems.at-link v h f) = at-link (volume-is s v, sound-all s v h) (first-link-is s v (test-ends s v h) f)
 
 is-refused : {s : List ℕ} {n p : ℕ} → Refused s n p → theorems.Refused s n p
 is-refused {s} (at21 a) = theorems.at21 (denied (tooShort s) (short-fails s) a)
@@ -303,9 +303,9 @@ is-refused {s} (at23 a b c) = theorems.at23 (short-fails s .1 a) (magic-fails s 
 is-refused {s} (at24 a b c d) = theorems.at24 (short-fails s .1 a) (magic-fails s .1 b) (full-fails s .1 c) (denied (badVolumeSum s) (sum-fails s) d)
 is-refused {s} (at25 a b c d e) = theorems.at25 (short-fails s .1 a) (magic-fails s .1 b) (full-fails s .1 c) (sum-fails s .1 d) (denied (badVolumeName s) (volume-name-fails s) e)
 is-refused {s} (at-header v f) = let w = is-volume s v in theorems.at-header w (is-first-fault s w f)
-is-refused {s} (at-link v h f) =
-    let w = is-volume s v in
-    let all = all-sound s w h in
+is-refused {s} (at-link h f) =
+    let w = is-volume s (h .0) in
+    let all = all-sound s w (h .1) in
     theorems.at-link w all (is-first-link s w (test-ends s w all) f)
 
 pub check-refused : (s : List ℕ) (n p : ℕ) → (check s ≡ broken n p) ↔ Refused s n p

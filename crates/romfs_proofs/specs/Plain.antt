@@ -17,7 +17,6 @@ use Rattle.list_laws.specs.Part.{getD-part, length-part}
 use Rattle.romfs_spec.specs.Layout.{pad16, fullSize, nameLength, nameEnds, afterName, fileType, executable, next, info, size, name, contentAt, endOf, own, isDots, descends, hasList, hasData, wordSum}
 use Rattle.romfs_spec.specs.Check.{tooShort, badMagic, badFullSize, badVolumeSum, badVolumeName, overBound, badName, badSum, badInfo, badSize, badHeader, badNext, badFirst, badNesting, tooDeep}
 use Rattle.romfs_spec.specs.Accepted.{numberAt, full, SomeZero, ZeroAfter, LongEnough, RightMagic, RightFullSize, RightVolumeSum, typeAt, executableAt, nextAt, infoAt, sizeAt, dataAt, endAt, Named, Dots, HasList, OwnBound, last, next as toNext, SoundHeader, Nested, Shallow}
-use Rattle.romfs_spec.specs.Statements.{WordsAre, HeaderIs}
 use Rattle.romfs_facts.specs.Facts.{and-no, or-yes, either, and-yes-l, and-yes-r, true-false, own-next, own-last}
 use Rattle.romfs_facts.specs.Lowest.{yes-no}
 
@@ -60,10 +59,6 @@ pub padded : (n : ℕ) → (pad16 n % 16 ≡ 0) × (n ≤ pad16 n) × (pad16 n <
 padded n = (omega arith, omega arith, omega arith)
 
 -- ---- names; 23 keeps F inside the image, so these bytes are bytes of it
-pub words-are : (s : List ℕ) (p : ℕ) → WordsAre s p
-words-are s p =
-    record { fileType = type-is s p; executable = executable-is s p; next = next-is s p; info = info-is s p; size = size-is s p }
-
 module _ (s : List ℕ) (p : ℕ) where
   -- the name at p is the n bytes before the first zero
   pub length-is : (n : ℕ) → ZeroAfter s p n → nameLength s p ≡ n
@@ -120,14 +115,6 @@ module _ (s : List ℕ) (p n : ℕ) (z : ZeroAfter s (p + 16) n) where
   pub name-is : name s p ≡ part (p + 16) n s
   unfolding name
   name-is = rw (length-is s (p + 16) n z)
-
-  pub header-is : HeaderIs s p n
-  unfolding part
-  header-is = record {
-    name = name-is;
-    contentAt = content-is;
-    endOf = end-is;
-  }
 
   pub sum-words : (contentAt s p - p) / 4 ≡ (16 + pad16 (n + 1)) / 4
   sum-words = ap (λ (x : ℕ). x / 4) (omega (arith, content-is))

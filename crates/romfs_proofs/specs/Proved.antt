@@ -1,57 +1,42 @@
--- Each statement of romfs_spec, proved.
-use Rattle.romfs_spec.specs.Statements as statements
+-- The statements of romfs_spec, proved.
+use Rattle.lists.specs.Lists.{part}
+use Rattle.romfs_spec.specs.Statements.{Statements}
 use Rattle.romfs_proofs.specs.Plain as plain
 use Rattle.romfs_proofs.specs.Checked as checked
 use Rattle.romfs_proofs.specs.Answered as answered
-use Rattle.romfs_proofs.specs.Past as past
+use Rattle.romfs_proofs.specs.Past.{past-full}
 
-pub padded : statements.padded
-padded = plain.padded
-
-pub name-ends : statements.name-ends
-name-ends = plain.name-ends
-
-pub name-length : statements.name-length
-name-length = plain.name-length
-
-pub word-sum : statements.word-sum
-word-sum = plain.word-sum
-
-pub words-are : statements.words-are
-words-are = plain.words-are
-
-pub header-is : statements.header-is
-header-is = plain.header-is
-
-pub check-accepted : statements.check-accepted
-check-accepted = checked.check-accepted
-
-pub reached-lies : statements.reached-lies
-reached-lies = checked.reached-lies
-
-pub reached-rises : statements.reached-rises
-reached-rises = checked.reached-rises
-
-pub reached-once : statements.reached-once
-reached-once = checked.reached-once
-
-pub reached-deep : statements.reached-deep
-reached-deep = checked.reached-deep
-
-pub check-refused : statements.check-refused
-check-refused = checked.check-refused
-
-pub find-given : statements.find-given
-find-given = answered.find-given
-
-pub entry-given : statements.entry-given
-entry-given = answered.entry-given
-
-pub length-given : statements.length-given
-length-given = answered.length-given
-
-pub content-given : statements.content-given
-content-given = answered.content-given
-
-pub past-full : statements.past-full
-past-full = past.past-full
+pub statements : Statements
+unfolding part
+statements =
+    record {
+      layout-laws = λ s. record {
+        padded = plain.padded;
+        name-ends = plain.name-ends s;
+        name-length = plain.name-length s;
+        word-sum = plain.word-sum s;
+        file-type = plain.type-is s;
+        executable = plain.executable-is s;
+        next = plain.next-is s;
+        info = plain.info-is s;
+        size = plain.size-is s;
+        name = plain.name-is s;
+        content-at = plain.content-is s;
+        end-of = plain.end-is s;
+      };
+      check-laws = λ s. record {
+        accepts = checked.check-accepted s;
+        refuses = checked.check-refused s;
+        lies = checked.reached-lies s;
+        rises = checked.reached-rises s;
+        once = checked.reached-once s;
+        deep = checked.reached-deep s;
+      };
+      request-laws = λ s. record {
+        find-given = answered.find-given s;
+        entry-given = answered.entry-given s;
+        length-given = answered.length-given s;
+        content-given = answered.content-given s;
+        past-full = past-full s;
+      };
+    }

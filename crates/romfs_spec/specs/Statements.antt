@@ -1,4 +1,4 @@
--- The statements about romfs, each as a type. Each is proved, under the same name, in romfs_proofs/specs/Proved.antt; the worked image of the rules is in the crate starred.
+-- The statements about romfs: layout, check, requests. The worked image of the rules is in the crate starred.
 use Prim.Native.Nat.{ℕ, suc, _+_, _*_, _%_, _^_, _≤_, _<_, max}
 use mathlib.Core.Path.{_≡_}
 use mathlib.Core.Logic.{_≢_, _⊎_, _↔_}
@@ -13,64 +13,23 @@ use Rattle.romfs_spec.specs.Requests.{Answer, granted, refused, find, En
 use Rattle.romfs_spec.specs.Accepted.{numberAt, full, SomeZero, ZeroAfter, LongEnough, RightMagic, RightFullSize, RightVolumeSum, SoundVolume, typeAt, executableAt, nextAt, infoAt, sizeAt, dataAt, endAt, Named, HasList, OwnBound, SoundHeader, Nested, Shallow, Sound, RootFirst, Reached, IsReached, Linked, Accepted}
 
 -- ---- layout
--- the least multiple of 16 from n on
-abbrev pub padded : Type 0
-padded = (n : ℕ) → (pad16 n % 16 ≡ 0) × (n ≤ pad16 n) × (pad16 n < n + 16)
-
--- A name has an end exactly when some byte up to F - 1 is zero, and its length is the number of bytes before the first.
-abbrev pub name-ends : Type 0
-name-ends = (s : List ℕ) (p : ℕ) → (layout.nameEnds s p ≡ true) ↔ SomeZero s p
-
-abbrev pub name-length : Type 0
-name-length = (s : List ℕ) (p n : ℕ) → ((layout.nameEnds s p ≡ true) × (layout.nameLength s p ≡ n)) ↔ ZeroAfter s p n
-
-abbrev pub word-sum : Type 0
-word-sum = (s : List ℕ) (p n : ℕ) → layout.wordSum s p n ≡ sum (λ i. numberAt s (p + 4 * i)) n % 2 ^ 32
-
--- the definitions of a header are those by its bytes: of its words,
-pub record WordsAre (s : List ℕ) (p : ℕ) : Type 0 where
-  pub fileType : layout.fileType s p ≡ typeAt s p
-  pub executable : layout.executable s p ≡ executableAt s p
-  pub next : layout.next s p ≡ nextAt s p
-  pub info : layout.info s p ≡ infoAt s p
-  pub size : layout.size s p ≡ sizeAt s p
-
-abbrev pub words-are : Type 0
-words-are = (s : List ℕ) (p : ℕ) → WordsAre s p
-
--- and, where its name has an end, of its name and its data
-pub record HeaderIs (s : List ℕ) (p n : ℕ) : Type 0 where
-  pub name : layout.name s p ≡ take n (drop (p + 16) s)
-  pub contentAt : layout.contentAt s p ≡ dataAt p n
-  pub endOf : layout.endOf s p ≡ endAt s p n
-
-abbrev pub header-is : Type 0
-header-is = (s : List ℕ) (p n : ℕ) → ZeroAfter s (p + 16) n → HeaderIs s p n
-
--- ---- accepted images
--- The check accepts exactly the accepted images.
-abbrev pub check-accepted : Type 0
-check-accepted = (s : List ℕ) → (check s ≡ accepted) ↔ Accepted s
-
--- ---- what the nesting gives where 21 to 28 are not broken, whatever 29 says
-abbrev pub Walked : List ℕ → Type 0
-Walked s = SoundVolume s × ((p b d : ℕ) → Reached s p b d → Sound s p b d)
-
--- A reached header lies before its list's bound, which for an inner list is its directory's next or an outer bound, which is at most F.
-abbrev pub reached-lies : Type 0
-reached-lies = (s : List ℕ) (p b d : ℕ) → Walked s → Reached s p b d → (32 ≤ p) × (p % 16 ≡ 0) × (p < b) × (b ≤ full s)
-
--- The nesting rules out loops: next and a list that is descended to lie further on,
-abbrev pub reached-rises : Type 0
-reached-rises = (s : List ℕ) (p b d : ℕ) → Walked s → Reached s p b d → (nextAt s p ≢ 0 → p < nextAt s p) × (HasList s p → p < infoAt s p)
-
--- a header is reached with one bound and one depth,
-abbrev pub reached-once : Type 0
-reached-once = (s : List ℕ) (p b d c e : ℕ) → Walked s → Reached s p b d → Reached s p c e → (b ≡ c) × (d ≡ e)
-
--- and the deepest list is 8.
-abbrev pub reached-deep : Type 0
-reached-deep = (s : List ℕ) (p b d : ℕ) → Walked s → Reached s p b d → d ≤ 8
+pub record LayoutLaws (s : List ℕ) : Type 0 where
+  -- the least multiple of 16 from n on
+  pub padded : (n : ℕ) → (pad16 n % 16 ≡ 0) × (n ≤ pad16 n) × (pad16 n < n + 16)
+  -- A name has an end exactly when some byte up to F - 1 is zero, and its length is the number of bytes before the first.
+  pub name-ends : (p : ℕ) → (layout.nameEnds s p ≡ true) ↔ SomeZero s p
+  pub name-length : (p n : ℕ) → ((layout.nameEnds s p ≡ true) × (layout.nameLength s p ≡ n)) ↔ ZeroAfter s p n
+  pub word-sum : (p n : ℕ) → layout.wordSum s p n ≡ sum (λ i. numberAt s (p + 4 * i)) n % 2 ^ 32
+  -- a header by its bytes: its words,
+  pub file-type : (p : ℕ) → layout.fileType s p ≡ typeAt s p
+  pub executable : (p : ℕ) → layout.executable s p ≡ executableAt s p
+  pub next : (p : ℕ) → layout.next s p ≡ nextAt s p
+  pub info : (p : ℕ) → layout.info s p ≡ infoAt s p
+  pub size : (p : ℕ) → layout.size s p ≡ sizeAt s p
+  -- and, where its name has n bytes and an end, its name and its data
+  pub name : (p n : ℕ) → ZeroAfter s (p + 16) n → layout.name s p ≡ take n (drop (p + 16) s)
+  pub content-at : (p n : ℕ) → ZeroAfter s (p + 16) n → layout.contentAt s p ≡ dataAt p n
+  pub end-of : (p n : ℕ) → ZeroAfter s (p + 16) n → layout.endOf s p ≡ endAt s p n
 
 -- ---- refusals
 -- a header that sound headers lead to
@@ -99,6 +58,10 @@ pub record FirstLink (s : List ℕ) (p : ℕ) : Type 0 where
   pub fault : Linked s p → ⊥
   pub lower : {q : ℕ} → IsReached s q → q < p → Linked s q
 
+-- 21 to 28 are not broken, whatever 29 says
+abbrev pub Walked : List ℕ → Type 0
+Walked s = SoundVolume s × ((p b d : ℕ) → Reached s p b d → Sound s p b d)
+
 -- when a refusal is given, with its number and its place
 pub data Refused (s : List ℕ) : ℕ → ℕ → Type 0 where
   at21 : (LongEnough s → ⊥) → Refused s 21 0
@@ -109,11 +72,19 @@ pub data Refused (s : List ℕ) : ℕ → ℕ → Type 0 where
   -- 26, 27, 28
   at-header : {num p : ℕ} → SoundVolume s → FirstFault s num p → Refused s num p
   -- after the walk
-  at-link : {p : ℕ} → SoundVolume s → ((q b d : ℕ) → Reached s q b d → Sound s q b d) → FirstLink s p → Refused s 29 p
+  at-link : {p : ℕ} → Walked s → FirstLink s p → Refused s 29 p
 
--- The check gives each refusal exactly when the rules do.
-abbrev pub check-refused : Type 0
-check-refused = (s : List ℕ) (num p : ℕ) → (check s ≡ broken num p) ↔ Refused s num p
+pub record CheckLaws (s : List ℕ) : Type 0 where
+  -- The check accepts exactly the accepted images, and gives each refusal exactly when the rules do.
+  pub accepts : (check s ≡ accepted) ↔ Accepted s
+  pub refuses : (num p : ℕ) → (check s ≡ broken num p) ↔ Refused s num p
+  -- A reached header lies before its list's bound, which for an inner list is its directory's next or an outer bound, which is at most F.
+  pub lies : (p b d : ℕ) → Walked s → Reached s p b d → (32 ≤ p) × (p % 16 ≡ 0) × (p < b) × (b ≤ full s)
+  -- The nesting rules out loops: next and a list that is descended to lie further on,
+  pub rises : (p b d : ℕ) → Walked s → Reached s p b d → (nextAt s p ≢ 0 → p < nextAt s p) × (HasList s p → p < infoAt s p)
+  -- a header is reached with one bound and one depth, and the deepest list is 8.
+  pub once : (p b d c e : ℕ) → Walked s → Reached s p b d → Reached s p c e → (b ≡ c) × (d ≡ e)
+  pub deep : (p b d : ℕ) → Walked s → Reached s p b d → d ≤ 8
 
 -- ---- requests
 -- When a request gives an answer: Fits is what it asks of its offset, Says what it answers where that holds.
@@ -141,7 +112,7 @@ pub data InList (s : List ℕ) (p : ℕ) : ℕ → Type 0 where
   here : InList s p p
   on : {q : ℕ} → InList s p q → nextAt s q ≢ 0 → InList s p (nextAt s q)
 
--- the first entry of the name want in a list, whose offsets rise (reached-rises)
+-- the first entry of the name want in a list, whose offsets rise (CheckLaws.rises)
 pub record FirstMatch (s want : List ℕ) (first p : ℕ) : Type 0 where
   pub entry : InList s first p
   pub named : Named s p want
@@ -157,10 +128,6 @@ pub record FindSays (s : List ℕ) (dir : ℕ) (want : List ℕ) (a : Answer ℕ
   pub begins : FirstGiven s dir first
   pub finds : Finds s want first a
 
--- Find gives an answer exactly when the rules do.
-abbrev pub find-given : Type 0
-find-given = (s : List ℕ) (dir : ℕ) (want : List ℕ) (a : Answer ℕ) → (find s dir want ≡ a) ↔ Answered s (Directory s dir) (FindSays s dir want) a
-
 -- ---- entry
 -- type, executable, spec.info, size, next and name length
 pub record EntryIs (s : List ℕ) (p : ℕ) (e : Entry) : Type 0 where
@@ -175,18 +142,10 @@ abbrev pub EntrySays : List ℕ → ℕ → Answer Entry → Type 0
 EntrySays s p (granted e) = EntryIs s p e
 EntrySays s p (refused num q) = ⊥
 
--- Entry gives an answer exactly when the rules do.
-abbrev pub entry-given : Type 0
-entry-given = (s : List ℕ) (p : ℕ) (a : Answer Entry) → (entry s p ≡ a) ↔ Answered s (IsReached s p) (EntrySays s p) a
-
 -- ---- content
 -- content is that of a reached header of type 2 or 3
 abbrev pub HasContent : List ℕ → ℕ → Type 0
 HasContent s p = IsReached s p × ((typeAt s p ≡ 2) ⊎ (typeAt s p ≡ 3))
-
--- The length is answered exactly when the rules say.
-abbrev pub length-given : Type 0
-length-given = (s : List ℕ) (p : ℕ) (a : Answer ℕ) → (contentLength s p ≡ a) ↔ Answered s (HasContent s p) (λ b. b ≡ granted (sizeAt s p)) a
 
 -- a granted content of n bytes: the part of the image from the padded name's end on, inside F, which is inside the image
 pub record ContentIs (s : List ℕ) (p n : ℕ) : Type 0 where
@@ -203,9 +162,6 @@ abbrev pub ContentSays : List ℕ → ℕ → Answer ℕ → Type 0
 ContentSays s p (granted n) = ContentIs s p n
 ContentSays s p (refused num q) = (content s p ≡ []) × (contentStart s p ≡ 0)
 
-abbrev pub content-given : Type 0
-content-given = (s : List ℕ) (p : ℕ) → ContentSays s p (contentLength s p)
-
 -- ---- bytes past F
 -- t holds the same first F bytes as s. Where F is under 32, so that s is refused, the first 32 are the same, for F itself stands in them. A slice shorter than that has only itself.
 abbrev pub SameFull : List ℕ → List ℕ → Type 0
@@ -220,6 +176,17 @@ pub record SameAnswers (s t : List ℕ) : Type 0 where
   pub contents : (p : ℕ) → content t p ≡ content s p
   pub starts : (p : ℕ) → contentStart t p ≡ contentStart s p
 
--- No answer depends on the bytes past F, whether the image is accepted or refused.
-abbrev pub past-full : Type 0
-past-full = (s t : List ℕ) → SameFull s t → SameAnswers s t
+pub record RequestLaws (s : List ℕ) : Type 0 where
+  -- Find, entry and content's length give an answer exactly when the rules do.
+  pub find-given : (dir : ℕ) (want : List ℕ) (a : Answer ℕ) → (find s dir want ≡ a) ↔ Answered s (Directory s dir) (FindSays s dir want) a
+  pub entry-given : (p : ℕ) (a : Answer Entry) → (entry s p ≡ a) ↔ Answered s (IsReached s p) (EntrySays s p) a
+  pub length-given : (p : ℕ) (a : Answer ℕ) → (contentLength s p ≡ a) ↔ Answered s (HasContent s p) (λ b. b ≡ granted (sizeAt s p)) a
+  pub content-given : (p : ℕ) → ContentSays s p (contentLength s p)
+  -- No answer depends on the bytes past F, whether the image is accepted or refused.
+  pub past-full : (t : List ℕ) → SameFull s t → SameAnswers s t
+
+-- ---- the statements: of every slice. romfs_proofs/specs/Proved.antt proves each.
+pub record Statements : Type 0 where
+  pub layout-laws : (s : List ℕ) → LayoutLaws s
+  pub check-laws : (s : List ℕ) → CheckLaws s
+  pub request-laws : (s : List ℕ) → RequestLaws s

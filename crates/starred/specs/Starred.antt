@@ -156,7 +156,7 @@ module _ {n : ℕ} {img : List ℕ} (g : Image n img) where
   unfolding tooShort
   long = to-false (ltb (length img) 1536) (λ t. omega (arith, ltb→lt (length img) 1536 t))
 
-  format-is : format 512 img PUMP ≡ record { answer = done; image = formatted img }
+  format-is : format 512 img PUMP ≡ record { answer = done; image = formatted img; buffer = [] }
   unfolding format computing
   format-is = rw long
 
@@ -214,7 +214,7 @@ module _ {n : ℕ} {img : List ℕ} (g : Image n img) where
 
 -- ---- the volume with the file
 module _ {img : List ℕ} (g : Image 128 img) where
-  is-made : create 512 (format 512 img PUMP .image) TIMING 1000 ≡ record { answer = value 3; image = made img }
+  is-made : create 512 (format 512 img PUMP .image) TIMING 1000 ≡ record { answer = value 3; image = made img; buffer = [] }
   unfolding computing
   is-made = created g refl 1000
 

@@ -11,7 +11,7 @@ use Rattle.list_laws.specs.Bits.{with-lt}
 use Rattle.tfs_spec.specs.Layout.{BlockSize, maxSize, blocks, block, setBlock, magic, setBit, setBits, setSlot, entry, inodeBlock}
 use Rattle.tfs_spec.specs.View.{View, view, size, slotOf, slotWith, freeSlot, place}
 use Rattle.tfs_spec.specs.Check.{Verdict, consistent, broken, check, fileClaims}
-use Rattle.tfs_spec.specs.Requests.{Answer, counted, transferView, granted, refuseFilled, checked, Store, storeAll, format, formatStores, zeroStores, placeStores, createStores, chosen, create, removeStores, remove, readBuffer, read, write}
+use Rattle.tfs_spec.specs.Requests.{Answer, counted, transferView, granted, refuse, checked, Store, storeAll, format, formatStores, zeroStores, placeStores, createStores, chosen, create, removeStores, remove, readBuffer, read, write}
 use Rattle.tfs_spec.specs.Offsets.{Bytes}
 use Rattle.tfs_facts.specs.CheckMeans.{check-means}
 use Rattle.tfs_facts.specs.Views.{view-n, view-map, view-dir}
@@ -134,13 +134,13 @@ placed B v s nm sz (i ∷ bs) m d n z c =
 
 -- ---- the requests
 -- a refused read leaves the buffer
-by-read : (v : Verdict) (a : Answer) (full buf : List ℕ) (P : List ℕ → Type 0) → P buf → P full → P (checked v (refuseFilled buf) (record { answer = a; buffer = cond (granted a) full buf }) .buffer)
-by-read consistent a full buf P k f = go (granted a)
+by-read : (v : Verdict) (a : Answer) (img full buf : List ℕ) (P : List ℕ → Type 0) → P buf → P full → P (checked v (refuse img buf) (record { answer = a; image = img; buffer = cond (granted a) full buf }) .buffer)
+by-read consistent a img full buf P k f = go (granted a)
   where
     go : (b : Bool) → P (cond b full buf)
     go true = f
     go false = k
-by-read (broken num p) a full buf P k f = k
+by-read (broken num p) a img full buf P k f = k
 
 module _ (B : ℕ) (sz : BlockSize B) (img : List ℕ) (bytes : Bytes img) where
   img-all : All img
@@ -192,7 +192,7 @@ module _ (B : ℕ) (sz : BlockSize B) (img : List ℕ) (bytes : Bytes img) where
       let s : ℕ = slotWith B v h in
       let c : ℕ = counted v s o (length buf) in
       let got : List ℕ = table (λ p. getD img (place B v s p) 0) o c in
-      by-read (check B img) (transferView B v h o (length buf)) (got ++ drop c buf) buf Bytes k
+      by-read (check B img) (transferView B v h o (length buf)) img (got ++ drop c buf) buf Bytes k
       (of-all (got ++ drop c buf) (all-append got (drop c buf) (all-table (λ p. getD img (place B v s p) 0) o c (λ p. bytes (place B v s p))) (all-drop c buf (all-of buf k))))
 
 -- sizes fit into four bytes

@@ -2,10 +2,11 @@
 use mathlib.Core.Path.{_≡_, refl, sym, ap, _∙_, subst}
 use mathlib.Core.Bool.{Bool, not, cond}
 use Prim.Native.Nat.{ℕ, _<_}
-use mathlib.Core.List.{List}
+use mathlib.Core.List.{List, []}
 use native.Mathlib.Omega.{arith}
 use lib.ListN.{length}
 use lib.Dec.{T, ltb, ltb→lt}
+use mathlib.Core.Option.{Option·map}
 use Rattle.list_laws.specs.Test.{not-not, to-true, by-test, cond-no}
 use Rattle.tfs_spec.specs.Layout.{BlockSize, slots}
 use Rattle.tfs_spec.specs.View.{View, view, name, slotOf, slotWith, contents}
@@ -13,7 +14,7 @@ use Rattle.tfs_spec.specs.Check.{Verdict, consistent, broken, check}
 use Rattle.tfs_spec.specs.Answers.{Handled}
 use Rattle.tfs_spec.specs.Consistent.{Consistent}
 use Rattle.tfs_facts.specs.CheckMeans.{check-means}
-use Rattle.tfs_spec.specs.Requests.{Answer, granted, Outcome, stored, storeAll, createView, createStores, create, removeView, removeStores, remove, transferView, write, checked, refuse, refused, Change, creates, removes, writes, perform}
+use Rattle.tfs_spec.specs.Requests.{Answer, granted, Outcome, stored, storeAll, createView, createStores, create, removeView, removeStores, remove, transferView, write, checked, refuse, Change, creates, removes, writes, perform}
 use Rattle.tfs_facts.specs.Views.{view-head}
 use Rattle.tfs_proofs.specs.WriteLists.{wr, putOf, request-answer, request-image, request-view, request-length, request-sound}
 use Rattle.tfs_spec.specs.Laws.{request}
@@ -23,7 +24,7 @@ use Rattle.tfs_facts.specs.Chosen.{CreateGrant}
 use Rattle.tfs_proofs.specs.Creates.{grant-step, create-grant, create-consistent, create-contents}
 use Rattle.tfs_proofs.specs.Removes.{remove-consistent, remove-contents}
 use Rattle.tfs_proofs.specs.WriteContents.{write-contents}
-use Rattle.tfs_spec.specs.Effects.{change, wrote, nameOn, effectOf}
+use Rattle.tfs_spec.specs.Effects.{change, over, nameOn, effectOf}
 
 -- ---- a granted request on a consistent volume
 abbrev pub Passed : ℕ → List ℕ → Type 0
@@ -70,7 +71,7 @@ module _ (B : ℕ) (img : List ℕ) (passed : Passed B img) where
       ltb→lt (slotWith B (view B img) h) (slots B) (not-not (ltb (slotWith B (view B img) h) (slots B)) (g14 .0))
 
 -- "A refused request changes no byte of the image"
-refused-core : (f : Verdict) (img new : List ℕ) (a : Answer) → T (not (granted (checked f (refuse img) (record { answer = a; image = cond (granted a) new img }) .answer))) → checked f (refuse img) (record { answer = a; image = cond (granted a) new img }) .image ≡ img
+refused-core : (f : Verdict) (img new : List ℕ) (a : Answer) → T (not (granted (checked f (refuse img []) (record { answer = a; image = cond (granted a) new img; buffer = [] }) .answer))) → checked f (refuse img []) (record { answer = a; image = cond (granted a) new img; buffer = [] }) .image ≡ img
 refused-core consistent img new a t = cond-no (granted a) new img t
 refused-core (broken num q) img new a t = refl
 
@@ -104,7 +105,7 @@ module _ (B : ℕ) (sz : BlockSize B) where
         (sym (view-head B (write B img h o bs .image)) ∙ ap (λ (v : View). v .head) (request-view B pos img p (ok .sound) (wr h o bs)) ∙ view-head B img)
         (request-sound B pos img p (ok .sound) (wr h o bs))
 
-    pub write-changes : T (granted (write B img h o bs .answer)) → (j : List ℕ) → contents B (write B img h o bs .image) j ≡ change (name (view B img) (slotWith B (view B img) h)) (wrote o bs) (contents B img) j
+    pub write-changes : T (granted (write B img h o bs .answer)) → (j : List ℕ) → contents B (write B img h o bs .image) j ≡ change (name (view B img) (slotWith B (view B img) h)) (Option·map (over o bs)) (contents B img) j
     unfolding request putOf
     write-changes g j =
         let hit : slotWith B (view B img) h < slots B = write-granted B img p h o bs g in

@@ -142,7 +142,7 @@ back-law B sz img ok nm z g =
     yes-answer : removeView B (view B m) nm ≡ done
     yes-answer = remove-yes B (view B m) nm (gr B sz img ok nm z g .named) (hit B sz img ok nm z g)
 
-    is : remove B m nm ≡ record { answer = done; image = storeAll B m (removeStores B (view B m) nm) }
+    is : remove B m nm ≡ record { answer = done; image = storeAll B m (removeStores B (view B m) nm); buffer = [] }
     is =
         remove-is B m (check-means B sz m .1 (ok-mid B sz img ok nm z g)) nm
         ∙ ap (λ (a : Answer). stored B m a (removeStores B (view B m) nm)) yes-answer

@@ -29,7 +29,7 @@ use Rattle.tfs_facts.specs.Names.{slot-miss, slot-is, free-hit, length-setSlot,
 use Rattle.tfs_proofs.specs.Others.{consistent-to, stands, formed-to, apart-to, small-to, inside-to, rest-to, contents-other}
 use Rattle.tfs_proofs.specs.Removes.{low-inside, map-inside}
 use Rattle.tfs_facts.specs.Entries.{Allowed, allowed, length-entry, entry-inode, entry-name, entry-taken, entry-used, length-inode, inode-size, inode-number, inode-rest}
-use Rattle.tfs_spec.specs.Effects.{change, made}
+use Rattle.tfs_spec.specs.Effects.{change}
 
 -- a granted choice was not the refusal
 pub grant-step : (b : Bool) (num : ℕ) (a : Answer) → T (granted (cond b (refused num 0) a)) → T (not b) × T (granted a)
@@ -425,7 +425,7 @@ module _ (B : ℕ) (sz : BlockSize B) (img : List ℕ) (ok : Consistent B img) (
       ap (λ (b : ℕ). getD new (b * B + p % B) 0) (new-at (p / B) k) ∙ zero-byte (p / B) (p % B) (omega (arith, length-bs)) (in-block B pos p))
       ∙ table-same 0 0 z
 
-  pub create-contents : (j : List ℕ) → contents B new j ≡ change nm (made z) (contents B img) j
+  pub create-contents : (j : List ℕ) → contents B new j ≡ change nm (λ old. some (zeros z)) (contents B img) j
   create-contents j =
       by-test (sameName j nm)
       (λ t.

@@ -19,7 +19,7 @@ use Rattle.tfs_spec.specs.View.{View, view, free, name, slotOf, contents}
 use Rattle.tfs_spec.specs.Check.{tooShort}
 use Rattle.tfs_spec.specs.Consistent.{File, Sound, Consistent}
 use Rattle.tfs_facts.specs.Claims.{slotIn, owns-file}
-use Rattle.tfs_spec.specs.Requests.{done, granted, Outcome, store, storeAll, refuse, formatStores, format, refused}
+use Rattle.tfs_spec.specs.Requests.{done, granted, Outcome, store, storeAll, refuse, formatStores, format}
 use Rattle.tfs_facts.specs.Raw.{head-number, label-byte}
 use Rattle.tfs_facts.specs.Views.{view-head, view-map, view-dir}
 use Rattle.tfs_facts.specs.Stores.{Fits, length-storeAll, stored-first, fits-up, stored-past, stored-at}
@@ -153,7 +153,7 @@ fits-four B h = omega arith
 
 -- ---- format, granted or refused
 -- what holds of each outcome that format can have
-pub by-format : (B : ℕ) (img label : List ℕ) (P : Outcome → Type 0) → (length img < 3 * B → P (refuse img 1 0)) → (T (not (labelAllowed label)) → P (refuse img 8 0)) → (3 * B ≤ length img → T (labelAllowed label) → P (record { answer = done; image = storeAll B img (formatStores B label) })) → P (format B img label)
+pub by-format : (B : ℕ) (img label : List ℕ) (P : Outcome → Type 0) → (length img < 3 * B → P (refuse img [] 1 0)) → (T (not (labelAllowed label)) → P (refuse img [] 8 0)) → (3 * B ≤ length img → T (labelAllowed label) → P (record { answer = done; image = storeAll B img (formatStores B label); buffer = [] })) → P (format B img label)
 unfolding format tooShort
 by-format B img label P short bad full =
     by-test (ltb (length img) (3 * B))

@@ -1,10 +1,10 @@
 -- Which answer each request gives, in plain facts: one table for each request, with a line for each of its answers.
 -- Each table holds of an answer exactly when the request gives it. The check comes first, so the volume is consistent; of format it is any image.
-use mathlib.Core.Path.{_≡_, refl, sym, ap, _∙_, subst}
+use mathlib.Core.Path.{_≡_, sym, ap, _∙_, subst}
 use mathlib.Core.Logic.{_≢_, _↔_, ⊎-elim}
 use mathlib.Core.Bool.{Bool, true, false, not, cond}
 use Prim.Native.Nat.{ℕ, _+_, _-_, _*_, _≤_, _<_, min}
-use mathlib.Core.List.{List}
+use mathlib.Core.List.{List, []}
 use native.Mathlib.Omega.{arith}
 use native.Mathlib.Decide.{decLt}
 use lib.ListN.{length, getD, take}
@@ -22,7 +22,7 @@ use Rattle.tfs_facts.specs.Claims.{count-some}
 use Rattle.tfs_facts.specs.CheckMeans.{check-means, same-means, length-field, used-means, name-means}
 use Rattle.tfs_facts.specs.Room.{free-cursor}
 use Rattle.tfs_spec.specs.Requests.{Request, changes, checks, opens, reads, lists, counts, creates, removes, writes, perform, reply, checkAnswer, freeAnswer, Answer, done, value, unused, file, refused, granted, Outcome, refuse, openView, openAnswer, freeFrom, chosen, createView, create, removeView, remove, counted, transferView, read, write, listView, listAnswer, format}
-use Rattle.tfs_spec.specs.Answers.{LabelRule, NameRule, Stands, Fresh, Handled, Vacant, LowestBlock, FindRule, misnamed, absent, found, CreateRule, unnamed, oversized, standing, full, cramped, created, TransferRule, unhandled, beyond, moved, ListRule, outside, vacant, holds, FormatRule, short, unlabelled, formatted, Rule, CreateGranted}
+use Rattle.tfs_spec.specs.Answers.{LabelRule, NameRule, Stands, Fresh, Handled, Vacant, LowestBlock, FindRule, misnamed, absent, found, CreateRule, unnamed, oversized, standing, full, cramped, created, TransferRule, unhandled, beyond, moved, ListRule, outside, vacant, holds, FormatRule, short, unlabelled, formatted, Rule}
 use Rattle.tfs_facts.specs.Views.{length-dir}
 use Rattle.tfs_facts.specs.Names.{slot-hit, slot-miss, slot-is, handle-hit, handle-is, free-hit}
 use Rattle.tfs_proofs.specs.Changes.{create-is, remove-is}
@@ -288,16 +288,16 @@ module _ (B : ℕ) (img label : List ℕ) where
       (λ u. unlabelled l (λ r. T-not (labelAllowed label) u (label-allowed label .1 r)))
       (λ u. formatted l (label-allowed label .0 (not-not (labelAllowed label) u))))
 
-  past-short : 3 * B ≤ length img → (x : Outcome) → cond (ltb (length img) (3 * B)) (refuse img 1 0) x .answer ≡ x .answer
-  past-short l x = ap (λ (o : Outcome). o .answer) (cond-no (ltb (length img) (3 * B)) (refuse img 1 0) x (le→nltb (length img) (3 * B) l))
+  past-short : 3 * B ≤ length img → (x : Outcome) → cond (ltb (length img) (3 * B)) (refuse img [] 1 0) x .answer ≡ x .answer
+  past-short l x = ap (λ (o : Outcome). o .answer) (cond-no (ltb (length img) (3 * B)) (refuse img [] 1 0) x (le→nltb (length img) (3 * B) l))
 
   format-only : (a : Answer) → FormatRule B img label a → format B img label .answer ≡ a
   unfolding format tooShort
-  format-only _ (short l) = ap (λ (o : Outcome). o .answer) (cond-yes (ltb (length img) (3 * B)) (refuse img 1 0) _ (lt→ltb (length img) (3 * B) l))
+  format-only _ (short l) = ap (λ (o : Outcome). o .answer) (cond-yes (ltb (length img) (3 * B)) (refuse img [] 1 0) _ (lt→ltb (length img) (3 * B) l))
   format-only _ (unlabelled l h) =
-      past-short l _ ∙ ap (λ (o : Outcome). o .answer) (cond-yes (not (labelAllowed label)) (refuse img 8 0) _ (not-T (labelAllowed label) (λ t. h (label-allowed label .0 t))))
+      past-short l _ ∙ ap (λ (o : Outcome). o .answer) (cond-yes (not (labelAllowed label)) (refuse img [] 8 0) _ (not-T (labelAllowed label) (λ t. h (label-allowed label .0 t))))
   format-only _ (formatted l r) =
-      past-short l _ ∙ ap (λ (o : Outcome). o .answer) (cond-no (not (labelAllowed label)) (refuse img 8 0) _ (yes-yes (labelAllowed label) (label-allowed label .1 r)))
+      past-short l _ ∙ ap (λ (o : Outcome). o .answer) (cond-no (not (labelAllowed label)) (refuse img [] 8 0) _ (yes-yes (labelAllowed label) (label-allowed label .1 r)))
 
   pub format-rule : (a : Answer) → (format B img label .answer ≡ a) ↔ FormatRule B img label a
   format-rule a = ((λ e. subst (FormatRule B img label) e format-holds), format-only a)
@@ -357,20 +357,3 @@ stands-named B img ok nm s st =
 pub stands-removed : (B : ℕ) → BlockSize B → (img : List ℕ) → Consistent B img → (nm : List ℕ) (s : ℕ) → Stands B (view B img) nm s → T (granted (remove B img nm .answer))
 stands-removed B sz img ok nm s st =
     subst (λ (a : Answer). T (granted a)) (sym (remove-answers B sz img ok nm done .1 (found s (stands-named B img ok nm s st) st))) tt
-
-granted-five : (B : ℕ) (v : View) (nm : List ℕ) (z : ℕ) (a : Answer) → CreateRule B v nm z a → T (granted a) → CreateGranted B v nm z
-granted-five B v nm z _ (unnamed h) t = absurd t
-granted-five B v nm z _ (oversized r h) t = absurd t
-granted-five B v nm z _ (standing s r k st) t = absurd t
-granted-five B v nm z _ (full r k f none) t = absurd t
-granted-five B v nm z _ (cramped s r k f w h) t = absurd t
-granted-five B v nm z _ (created s h r k f w room low) t = record { named = r; small = k; fresh = f; slot = (s, w); room = room }
-
-pub create-grants : (B : ℕ) → BlockSize B → (img : List ℕ) → Consistent B img → (nm : List ℕ) (z : ℕ) → T (granted (create B img nm z .answer)) ↔ CreateGranted B (view B img) nm z
-create-grants B sz img ok nm z =
-    let law = create-answers B sz img ok nm z in (
-      (λ t. granted-five B (view B img) nm z (create B img nm z .answer) (law (create B img nm z .answer) .0 refl) t),
-      λ g.
-          let low = lowest-block (view B img) (omega (arith, g .room)) in
-          subst (λ (a : Answer). T (granted a)) (sym (law (value (low .0)) .1 (created (g .slot .0) (low .0) (g .named) (g .small) (g .fresh) (g .slot .1) (g .room) (low .1)))) tt,
-    )

@@ -13,7 +13,7 @@ use Rattle.tfs_spec.specs.Layout.{BlockSize, slots, maxSize, need, nameAllowed}
 use Rattle.tfs_spec.specs.View.{View, view, inode, slotOf, slotWith, freeSlot, freeBlocks}
 use Rattle.tfs_spec.specs.Consistent.{inodeOf, Consistent}
 use Rattle.tfs_facts.specs.CheckMeans.{check-means}
-use Rattle.tfs_spec.specs.Requests.{Answer, value, refused, granted, Outcome, storeAll, openView, openAnswer, chosen, createView, createStores, create, removeStores, remove, transferView, read, write}
+use Rattle.tfs_spec.specs.Requests.{Answer, value, granted, Outcome, storeAll, openView, openAnswer, chosen, createView, createStores, create, removeStores, remove, transferView, read, write}
 use Rattle.tfs_proofs.specs.Places.{owner-slot}
 use Rattle.tfs_proofs.specs.WriteLists.{wr, request-answer}
 use Rattle.tfs_spec.specs.Laws.{request}

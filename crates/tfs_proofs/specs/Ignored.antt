@@ -17,7 +17,7 @@ use Rattle.list_laws.specs.Part.{getD-part, part-ext}
 use Rattle.tfs_spec.specs.Layout.{BlockSize, slots, numbers, maxSize, need, blocks, block, slot, slotInode, slotName, slotFree, slotUsed, inRange, sameName, mapBit, magic, volumeName, nameAllowed, inodeSize, inodeNumber}
 use Rattle.tfs_spec.specs.View.{View, view, viewN, inodeAt, free, used, inode, name, size, number, slotOf, slotWith, freeSlot, place, freeBlocks}
 use Rattle.tfs_spec.specs.Check.{Verdict, consistent, broken, found, tooShort, badMagic, badLabel, repeats, badSlot, badNumber, badInode, fileClaims, claimsTo, claims, claimedTwice, badBit, checkView, check, times}
-use Rattle.tfs_spec.specs.Requests.{Answer, value, refused, unused, file, granted, checked, readBuffer, openView, openAnswer, freeFrom, chosen, createView, create, removeView, remove, counted, transferView, read, write, listView, listAnswer, freeAnswer, refuse, refuseFilled}
+use Rattle.tfs_spec.specs.Requests.{Answer, value, refused, unused, file, granted, checked, Outcome, readBuffer, openView, openAnswer, freeFrom, chosen, createView, create, removeView, remove, counted, transferView, read, write, listView, listAnswer, freeAnswer, refuse}
 use Rattle.tfs_facts.specs.Views.{view-n, view-head, view-map, view-dir}
 use Rattle.tfs_spec.specs.Consistent.{Inside, Sound}
 use Rattle.tfs_spec.specs.Effects.{SameRead}
@@ -248,27 +248,36 @@ check-of : (B : ℕ) (a b : List ℕ) → length a ≡ length b → checkView B 
 unfolding check tooShort
 check-of B a b l e = λ i. cond (ltb (l i) (3 * B)) (broken 1 0) (e i)
 
+-- what read gives, of an image with a verdict and a view
+abbrev pub filled : ℕ → ℕ → ℕ → List ℕ → List ℕ → Verdict → View → Outcome
+filled B h o buf img x v =
+    checked x (refuse img buf)
+    (record { answer = transferView B v h o (length buf); image = img; buffer = cond (granted (transferView B v h o (length buf))) (readBuffer B v img (slotWith B v h) o buf) buf })
+
+-- two outcomes with one answer and one buffer
+abbrev pub SameFill : Outcome → Outcome → Type 0
+SameFill x y = (x .answer ≡ y .answer) × (x .buffer ≡ y .buffer)
+
 -- what the rules say of either image
 pub record IgnoredLaw (B : ℕ) (a b : List ℕ) : Type 0 where
   pub check-same : check B a ≡ check B b
   pub open-same : (nm : List ℕ) → openAnswer B a nm ≡ openAnswer B b nm
   pub create-same : (nm : List ℕ) (z : ℕ) → create B a nm z .answer ≡ create B b nm z .answer
   pub remove-same : (nm : List ℕ) → remove B a nm .answer ≡ remove B b nm .answer
-  pub read-same : (h o : ℕ) (buf : List ℕ) → read B a h o buf ≡ read B b h o buf
+  pub read-same : (h o : ℕ) (buf : List ℕ) → SameFill (read B a h o buf) (read B b h o buf)
   pub write-same : (h o : ℕ) (buf : List ℕ) → write B a h o buf .answer ≡ write B b h o buf .answer
   pub list-same : (s : ℕ) → listAnswer B a s ≡ listAnswer B b s
   pub free-same : freeAnswer B a ≡ freeAnswer B b
 
-outcome-answer : (f : Verdict) (img new : List ℕ) (x : Answer) → checked f (refuse img) (record { answer = x; image = cond (granted x) new img }) .answer ≡ checked f refused x
+outcome-answer : (f : Verdict) (img new : List ℕ) (x : Answer) → checked f (refuse img []) (record { answer = x; image = cond (granted x) new img; buffer = [] }) .answer ≡ checked f refused x
 outcome-answer consistent img new x = refl
 outcome-answer (broken num p) img new x = refl
 
 -- the bytes read lie in blocks of files, which are the same
-read-alike : (B : ℕ) → BlockSize B → (a b : List ℕ) → SameRead B a b → Alike B (view B a) (view B b) → check B a ≡ check B b → (h o : ℕ) (buf : List ℕ) → read B a h o buf ≡ read B b h o buf
+read-alike : (B : ℕ) → BlockSize B → (a b : List ℕ) → SameRead B a b → Alike B (view B a) (view B b) → check B a ≡ check B b → (h o : ℕ) (buf : List ℕ) → SameFill (read B a h o buf) (read B b h o buf)
 unfolding read readBuffer counted place
 read-alike B size-ok a b same al ch h o buf =
-    ap (λ (f : Verdict). checked f (refuseFilled buf) (record { answer = transferView B v h o (length buf); buffer = cond (granted (transferView B v h o (length buf))) (readBuffer B v a (slotWith B v h) o buf) buf })) ch
-    ∙ go (check B b) refl
+    subst (λ (f : Verdict). SameFill (filled B h o buf a f v) (read B b h o buf)) (sym ch) (go (check B b) refl)
   where
     v : View
     v = view B a
@@ -289,13 +298,12 @@ read-alike B size-ok a b same al ch h o buf =
         ap (λ (k : ℕ). getD a (k * B + p % B) 0) (number-alike B v w al s (p / B))
         ∙ block-byte B a b (number w s (p / B)) (p % B) (in-block B (omega (arith, size-ok .large)) p) (same .rest (number w s (p / B)) (c .low) (omega (arith, c .high, view-n B b, blocks-eq B a b (same .long))))))
 
-    go : (x : Verdict) → check B b ≡ x → checked x (refuseFilled buf) (record { answer = transferView B v h o (length buf); buffer = cond (granted (transferView B v h o (length buf))) (readBuffer B v a (slotWith B v h) o buf) buf }) ≡ checked x (refuseFilled buf) (record { answer = transferView B w h o (length buf); buffer = cond (granted (transferView B w h o (length buf))) (readBuffer B w b (slotWith B w h) o buf) buf })
-    go consistent e = λ i.
-        record {
-          answer = ta i;
-          buffer = cond (granted (ta i)) ((ap (λ (s : ℕ). readBuffer B v a s o buf) (slot-with-alike B v w al h) ∙ same-bytes (check-means B size-ok b .0 e .sound) (slotWith B w h)) i) buf;
-        }
-    go (broken num p) e = refl
+    go : (x : Verdict) → check B b ≡ x → SameFill (filled B h o buf a x v) (filled B h o buf b x w)
+    go consistent e = (
+      ta,
+      λ i. cond (granted (ta i)) ((ap (λ (s : ℕ). readBuffer B v a s o buf) (slot-with-alike B v w al h) ∙ same-bytes (check-means B size-ok b .0 e .sound) (slotWith B w h)) i) buf,
+    )
+    go (broken num p) e = (refl, refl)
 
 pub ignored : (B : ℕ) → BlockSize B → (a b : List ℕ) → SameRead B a b → IgnoredLaw B a b
 unfolding openAnswer create remove read write listAnswer freeAnswer

@@ -15,7 +15,7 @@ use Rattle.tfs_spec.specs.Check.{Verdict, consistent, broken, check, fileClaims
 use Rattle.tfs_spec.specs.Consistent.{File, Inside, Consistent}
 use Rattle.tfs_facts.specs.CheckMeans.{check-means, owns-inside}
 use Rattle.tfs_facts.specs.Total.{three-blocks}
-use Rattle.tfs_spec.specs.Requests.{granted, Outcome, Store, store, storeAll, zeroStores, chosen, placeStores, createStores, create, removeStores, remove, write, checked, refuse, refused, Change, creates, removes, writes, perform}
+use Rattle.tfs_spec.specs.Requests.{granted, Outcome, Store, store, storeAll, zeroStores, chosen, placeStores, createStores, create, removeStores, remove, write, checked, refuse, Change, creates, removes, writes, perform}
 use Rattle.tfs_facts.specs.Sizes.{after-block}
 use Rattle.tfs_facts.specs.Views.{view-n, view-head, view-map, view-dir, length-map, length-dir}
 use Rattle.tfs_facts.specs.Stores.{Fits, Away, stored-away, stored-first, zero-fits, zero-away, fits-up, stored-at, fits-append, away-append}
@@ -43,7 +43,7 @@ kept-view B img new e =
     }
 
 -- ---- which images a request can leave
-granted-core : (x : Verdict) (img : List ℕ) (o : Outcome) → T (granted (checked x (refuse img) o .answer)) → x ≡ consistent
+granted-core : (x : Verdict) (img : List ℕ) (o : Outcome) → T (granted (checked x (refuse img []) o .answer)) → x ≡ consistent
 granted-core consistent img o t = refl
 granted-core (broken num p) img o t = absurd t
 

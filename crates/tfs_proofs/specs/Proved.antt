@@ -1,5 +1,5 @@
--- Each statement of tfs_spec has its proof here, under its own name.
-use Rattle.tfs_spec.specs.Statements as statements
+-- The statements of tfs_spec, each proved under its own name.
+use Rattle.tfs_spec.specs.Statements.{Statements}
 use mathlib.Core.Path.{refl, sym, _∙_, subst}
 use native.Mathlib.Omega.{arith}
 use lib.Dec.{T}
@@ -20,7 +20,7 @@ use Rattle.tfs_proofs.specs.Others.{stands, stands-not}
 use Rattle.tfs_proofs.specs.Changes.{changed, stays-consistent, name-on}
 use Rattle.tfs_proofs.specs.Formats.{format-refused, format-grants, format-consistent, format-empty, format-handles, format-past, format-length, format-head, format-map, format-directory}
 use Rattle.tfs_proofs.specs.Reads.{read-law, covers}
-use Rattle.tfs_proofs.specs.Grants.{stands-at, fresh-high, label-allowed, name-allowed, format-rule, rule-reply, create-grants}
+use Rattle.tfs_proofs.specs.Grants.{stands-at, fresh-high, label-allowed, name-allowed, format-rule, rule-reply}
 use Rattle.tfs_proofs.specs.Answers.{format-numbered}
 use Rattle.tfs_proofs.specs.Replies.{told-done, told-broken, granted-or-refused, faulty, fault-reply, numbered, keeps, kept, ignored-reply, tail-kept-by, tail-unread-by}
 use Rattle.tfs_proofs.specs.Tail.{tail-kept, tail-unread}
@@ -34,156 +34,111 @@ use Rattle.tfs_proofs.specs.WriteLists.{writes-law, pieces-law}
 use Rattle.tfs_proofs.specs.CreateRemove.{back-law}
 use Rattle.tfs_proofs.specs.Orders.{orders-law}
 
--- ---- Offsets
-pub layout-laws : statements.layout-laws
-layout-laws = offsets.layout-laws
-
-pub name-laws : statements.name-laws
-name-laws = record { same = same-means }
-
-pub number-laws : statements.number-laws
-number-laws =
+pub statements : Statements
+unfolding checkAnswer perform
+statements =
     record {
-      large = sizes.large;
-      small = sizes.small;
-      enough = sizes.enough;
-      tight = sizes.tight;
-      base = size-512;
-      volume = refl;
-      directory = refl;
-      inode = refl;
-      file = refl;
-      bytes = sizes.four-bytes;
-    }
-
--- ---- Answers
-pub check-laws : statements.check-laws
-unfolding checkAnswer
-check-laws B sz img =
-    let means = check-means B sz img in
-    let says = check-breaks B sz img in
-    record {
-      passes = means;
-      grants = ((λ e. means .0 (told-done (check B img) .0 e)), λ ok. told-done (check B img) .1 (means .1 ok));
-      breaks = says;
-      refuses = λ num p.
-          ((λ e. says num p .0 (told-broken (check B img) num p .0 e)), λ first. told-broken (check B img) num p .1 (says num p .1 first));
-      faulty = faulty B sz img;
-      refused-by-all = fault-reply B sz img;
-    }
-
-pub refusal-laws : statements.refusal-laws
-refusal-laws B sz img =
-    record {
-      numbered = numbered B sz img;
-      format-numbered = λ label. format-numbered B img label (format B img label .answer) (format-rule B img label (format B img label .answer) .0 refl);
-      keeps = keeps B img;
-      format-keeps = format-refused B img;
-      granted-or-refused = granted-or-refused;
-    }
-
-pub grant-laws : statements.grant-laws
-grant-laws B sz img =
-    record {
-      answers = rule-reply B sz img;
-      creating = create-grants B sz img;
-      formatting = format-rule B img;
-      name-allowed = name-allowed;
-      label-allowed = label-allowed;
-    }
-
--- ---- Effects
-pub content-laws : statements.content-laws
-content-laws B sz img ok =
-    record {
-      long = length-content B (view B img) img;
-      file = content-joined B sz img ok;
-      named = λ nm s st. stands B img nm s (stands-at B (view B img) nm (ok .sound) s st) (st .file .slot);
-      absent = λ nm none. stands-not B img nm (fresh-high B (view B img) nm none);
-    }
-
-pub change-laws : statements.change-laws
-change-laws B sz img ok =
-    record { stays = stays-consistent B sz img ok; changes = λ c g. changed B sz img ok c g .contents; name-on = name-on B sz img ok }
-
-pub touch-laws : statements.touch-laws
-touch-laws B sz img ok = record { created = create-touches B sz img ok; removed = remove-touches B sz img ok }
-
-pub format-laws : statements.format-laws
-format-laws B sz img label h l =
-    let t : T (labelAllowed label) = label-allowed label .1 l in
-    let g : T (granted (format B img label .answer)) = subst (λ (a : Answer). T (granted a)) (sym (format-grants sz img label h t)) tt in
-    record {
-      answer = format-grants sz img label h t;
-      consistent = format-consistent sz img label g;
-      empty = format-empty sz img label g;
-      handles = format-handles sz img label g;
-      head = format-head sz img label g;
-      map = format-map sz img label g;
-      directory = format-directory sz img label g;
-      past = format-past sz img label;
-      long = format-length sz img label;
-    }
-
-pub read-laws : statements.read-laws
-read-laws = read-law
-
-pub kept-laws : statements.kept-laws
-kept-laws B sz img =
-    record {
-      kept = kept B sz img;
-      ignored = ignored-reply B sz img;
-      ignored-after = same-after-all B sz img;
-      tail-kept = tail-kept-by B sz img;
-      tail-formatted = tail-kept sz img .formatted;
-      tail-unread = tail-unread-by B sz img;
-      tail-format = λ b same label. (tail-unread sz img b same .format-answer label, tail-unread sz img b same .formatted label);
-    }
-
-pub byte-laws : statements.byte-laws
-byte-laws B sz small img bytes =
-    record {
-      formatted = stay.format-bytes B sz img bytes;
-      created = stay.create-bytes B sz small img bytes;
-      removed = stay.remove-bytes B sz img bytes;
-      written = stay.write-bytes B sz img bytes;
-      read-into = stay.read-bytes B sz img bytes;
-    }
-
-pub room-laws : statements.room-laws
-unfolding perform
-room-laws B sz img ok =
-    record {
-      total = adds-up B sz img ok ∙ view-n B img;
-      freed = removed-room B sz img ok;
-      taken = created-room B sz img ok;
-      written = written-room B sz img ok;
-    }
-
--- ---- Handles
-pub handle-laws : statements.handle-laws
-unfolding perform
-handle-laws B sz img ok =
-    record {
-      opened = λ nm h e. means-file B (view B img) (ok .sound) h nm .0 (open-means B sz img ok nm h e);
-      created = step-new B sz img ok;
-      none-read = λ h none o buf. rule-reply B sz img ok (reads h o buf) _ .1 (unhandled none);
-      none-written = λ h none o bs. rule-reply B sz img ok (changes (writes h o bs)) _ .1 (unhandled none);
-      removed = λ nm h w. step-gone B sz img ok h nm w;
-      retaken = steps.retaken B sz img ok;
-      left = steps.left B sz img ok;
-      consistent = λ cs. handles-law B sz img ok cs .consistent;
-      file = λ cs. handles-law B sz img ok cs .file;
-      none = λ cs. handles-law B sz img ok cs .none;
-    }
-
--- ---- Laws
-pub request-laws : statements.request-laws
-request-laws B sz img ok =
-    record {
-      writes = writes-law B (omega (arith, sz .large)) img (check-means B sz img .1 ok) (ok .sound);
-      covers = covers B sz img ok;
-      pieces = λ h o bs. pieces-law B (omega (arith, sz .large)) h bs o img (check-means B sz img .1 ok) (ok .sound);
-      back = back-law B sz img ok;
-      orders = orders-law B sz img ok;
+      layout-laws = offsets.layout-laws;
+      name-laws = record { same = same-means };
+      number-laws = record {
+        large = sizes.large;
+        small = sizes.small;
+        enough = sizes.enough;
+        tight = sizes.tight;
+        base = size-512;
+        volume = refl;
+        directory = refl;
+        inode = refl;
+        file = refl;
+        bytes = sizes.four-bytes;
+      };
+      check-laws = λ B sz img.
+          let means = check-means B sz img in
+          let says = check-breaks B sz img in
+          record {
+            passes = means;
+            grants = ((λ e. means .0 (told-done (check B img) .0 e)), λ ok. told-done (check B img) .1 (means .1 ok));
+            breaks = says;
+            refuses = λ num p.
+                ((λ e. says num p .0 (told-broken (check B img) num p .0 e)), λ first. told-broken (check B img) num p .1 (says num p .1 first));
+            faulty = faulty B sz img;
+            refused-by-all = fault-reply B sz img;
+          };
+      refusal-laws = λ B sz img. record {
+        numbered = numbered B sz img;
+        format-numbered = λ label. format-numbered B img label (format B img label .answer) (format-rule B img label (format B img label .answer) .0 refl);
+        keeps = keeps B img;
+        format-keeps = format-refused B img;
+        granted-or-refused = granted-or-refused;
+      };
+      grant-laws = λ B sz img. record {
+        answers = rule-reply B sz img;
+        formatting = format-rule B img;
+        name-allowed = name-allowed;
+        label-allowed = label-allowed;
+      };
+      content-laws = λ B sz img ok. record {
+        long = length-content B (view B img) img;
+        file = content-joined B sz img ok;
+        named = λ nm s st. stands B img nm s (stands-at B (view B img) nm (ok .sound) s st) (st .file .slot);
+        absent = λ nm none. stands-not B img nm (fresh-high B (view B img) nm none);
+      };
+      change-laws = λ B sz img ok. record { stays = stays-consistent B sz img ok; changes = λ c g. changed B sz img ok c g .contents; name-on = name-on B sz img ok };
+      touch-laws = λ B sz img ok. record { created = create-touches B sz img ok; removed = remove-touches B sz img ok };
+      format-laws = λ B sz img label h l.
+          let t : T (labelAllowed label) = label-allowed label .1 l in
+          let g : T (granted (format B img label .answer)) = subst (λ (a : Answer). T (granted a)) (sym (format-grants sz img label h t)) tt in
+          record {
+            answer = format-grants sz img label h t;
+            consistent = format-consistent sz img label g;
+            empty = format-empty sz img label g;
+            handles = format-handles sz img label g;
+            head = format-head sz img label g;
+            map = format-map sz img label g;
+            directory = format-directory sz img label g;
+            past = format-past sz img label;
+            long = format-length sz img label;
+          };
+      read-laws = read-law;
+      kept-laws = λ B sz img. record {
+        kept = kept B sz img;
+        ignored = ignored-reply B sz img;
+        ignored-after = same-after-all B sz img;
+        tail-kept = tail-kept-by B sz img;
+        tail-formatted = tail-kept sz img .formatted;
+        tail-unread = tail-unread-by B sz img;
+        tail-format = λ b same label. (tail-unread sz img b same .format-answer label, tail-unread sz img b same .formatted label);
+      };
+      byte-laws = λ B sz small img bytes. record {
+        formatted = stay.format-bytes B sz img bytes;
+        created = stay.create-bytes B sz small img bytes;
+        removed = stay.remove-bytes B sz img bytes;
+        written = stay.write-bytes B sz img bytes;
+        read-into = stay.read-bytes B sz img bytes;
+      };
+      room-laws = λ B sz img ok. record {
+        total = adds-up B sz img ok ∙ view-n B img;
+        freed = removed-room B sz img ok;
+        taken = created-room B sz img ok;
+        written = written-room B sz img ok;
+      };
+      handle-laws = λ B sz img ok. record {
+        opened = λ nm h e. means-file B (view B img) (ok .sound) h nm .0 (open-means B sz img ok nm h e);
+        created = step-new B sz img ok;
+        none-read = λ h none o buf. rule-reply B sz img ok (reads h o buf) _ .1 (unhandled none);
+        none-written = λ h none o bs. rule-reply B sz img ok (changes (writes h o bs)) _ .1 (unhandled none);
+        removed = λ nm h w. step-gone B sz img ok h nm w;
+        retaken = steps.retaken B sz img ok;
+        left = steps.left B sz img ok;
+        consistent = λ cs. handles-law B sz img ok cs .consistent;
+        file = λ cs. handles-law B sz img ok cs .file;
+        none = λ cs. handles-law B sz img ok cs .none;
+      };
+      request-laws = λ B sz img ok. record {
+        writes = writes-law B (omega (arith, sz .large)) img (check-means B sz img .1 ok) (ok .sound);
+        covers = covers B sz img ok;
+        pieces = λ h o bs. pieces-law B (omega (arith, sz .large)) h bs o img (check-means B sz img .1 ok) (ok .sound);
+        back = back-law B sz img ok;
+        orders = orders-law B sz img ok;
+      };
     }

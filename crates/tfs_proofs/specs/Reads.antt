@@ -18,7 +18,7 @@ use Rattle.tfs_spec.specs.Answers.{Handled}
 use Rattle.tfs_spec.specs.Effects.{ReadLaws}
 use Rattle.tfs_spec.specs.Laws.{Write, request, countOf, coversAt}
 use Rattle.tfs_proofs.specs.WriteLists.{request-answer}
-use Rattle.tfs_spec.specs.Requests.{Answer, value, refused, granted, counted, transferView, readBuffer, read, checked, refuseFilled, done, unused, file}
+use Rattle.tfs_spec.specs.Requests.{Answer, value, refused, granted, counted, transferView, readBuffer, read, checked, refuse, done, unused, file}
 use Rattle.tfs_facts.specs.CheckMeans.{check-means}
 use Rattle.tfs_facts.specs.Names.{handle-hit, handle-is}
 use Rattle.tfs_proofs.specs.Creates.{value-step, same-value}
@@ -68,13 +68,13 @@ transfer-means B v h o len c e =
     record { file = hit .0; handle = hit .1; within = r .1; count = r .2 }
 
 -- ---- read
-read-granted : (verdict : Verdict) (a : Answer) (full buf : List ℕ) (c : ℕ) → checked verdict (refuseFilled buf) (record { answer = a; buffer = cond (granted a) full buf }) .answer ≡ value c → (a ≡ value c) × (checked verdict (refuseFilled buf) (record { answer = a; buffer = cond (granted a) full buf }) .buffer ≡ full)
-read-granted consistent a full buf c e = (e, ap (λ (x : Answer). cond (granted x) full buf) e)
-read-granted (broken num p) a full buf c e = absurd (let z : _≡_ {A = ℕ} 0 1 = cc in omega arith)
+read-granted : (verdict : Verdict) (a : Answer) (img full buf : List ℕ) (c : ℕ) → checked verdict (refuse img buf) (record { answer = a; image = img; buffer = cond (granted a) full buf }) .answer ≡ value c → (a ≡ value c) × (checked verdict (refuse img buf) (record { answer = a; image = img; buffer = cond (granted a) full buf }) .buffer ≡ full)
+read-granted consistent a img full buf c e = (e, ap (λ (x : Answer). cond (granted x) full buf) e)
+read-granted (broken num p) a img full buf c e = absurd (let z : _≡_ {A = ℕ} 0 1 = cc in omega arith)
 
-read-left : (verdict : Verdict) (a : Answer) (full buf : List ℕ) → T (not (granted (checked verdict (refuseFilled buf) (record { answer = a; buffer = cond (granted a) full buf }) .answer))) → checked verdict (refuseFilled buf) (record { answer = a; buffer = cond (granted a) full buf }) .buffer ≡ buf
-read-left consistent a full buf t = cond-no (granted a) full buf t
-read-left (broken num p) a full buf t = refl
+read-left : (verdict : Verdict) (a : Answer) (img full buf : List ℕ) → T (not (granted (checked verdict (refuse img buf) (record { answer = a; image = img; buffer = cond (granted a) full buf }) .answer))) → checked verdict (refuse img buf) (record { answer = a; image = img; buffer = cond (granted a) full buf }) .buffer ≡ buf
+read-left consistent a img full buf t = cond-no (granted a) full buf t
+read-left (broken num p) a img full buf t = refl
 
 module _ (B : ℕ) (img : List ℕ) (h o : ℕ) (buf : List ℕ) where
   -- of every granted read
@@ -84,7 +84,7 @@ module _ (B : ℕ) (img : List ℕ) (h o : ℕ) (buf : List ℕ) where
       let v : View = view B img in
       let s : ℕ = slotWith B v h in
       let f : ℕ → ℕ = λ p. getD img (place B v s p) 0 in
-      let r = read-granted (check B img) (transferView B v h o (length buf)) (readBuffer B v img s o buf) buf c e in
+      let r = read-granted (check B img) (transferView B v h o (length buf)) img (readBuffer B v img s o buf) buf c e in
       let t : Transfer B v h o (length buf) c = transfer-means B v h o (length buf) c (r .0) in
       record {
         slot = s;
@@ -100,7 +100,7 @@ module _ (B : ℕ) (img : List ℕ) (h o : ℕ) (buf : List ℕ) where
   pub read-refused : T (not (granted (read B img h o buf .answer))) → read B img h o buf .buffer ≡ buf
   unfolding read
   read-refused t =
-      read-left (check B img) (transferView B (view B img) h o (length buf)) (readBuffer B (view B img) img (slotWith B (view B img) h) o buf) buf t
+      read-left (check B img) (transferView B (view B img) h o (length buf)) img (readBuffer B (view B img) img (slotWith B (view B img) h) o buf) buf t
 
 -- ---- what a write covers
 count-some : (a : Answer) → 1 ≤ countOf a → a ≡ value (countOf a)

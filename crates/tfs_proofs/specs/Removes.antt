@@ -24,7 +24,7 @@ use Rattle.tfs_facts.specs.MapBits.{in-map, length-setBits, in-dec, mapped-all,
 use Rattle.tfs_proofs.specs.Frame.{Frame, n-same, name-same, file-from, owns-to, owns-from}
 use Rattle.tfs_facts.specs.Names.{name-trans, slot-hit, length-setSlot, slot-set, slot-unset, claims-owner, owner-claims}
 use Rattle.tfs_proofs.specs.Others.{consistent-to, stands-not, formed-to, apart-to, small-to, inside-to, rest-to, contents-other}
-use Rattle.tfs_spec.specs.Effects.{change, gone}
+use Rattle.tfs_spec.specs.Effects.{change}
 
 -- a volume of three blocks or more has blocks 0 to 2 inside the image
 pub low-inside : (B : ℕ) (img : List ℕ) → 3 * B ≤ length img → (b : ℕ) → b < 3 → b * B + B ≤ length img
@@ -192,7 +192,7 @@ module _ (B : ℕ) (sz : BlockSize B) (img : List ℕ) (ok : Consistent B img) (
         | no h ↦ stands-not B new j (omega arith)
       ]
 
-  pub remove-contents : (j : List ℕ) → contents B new j ≡ change nm gone (contents B img) j
+  pub remove-contents : (j : List ℕ) → contents B new j ≡ change nm (λ old. none) (contents B img) j
   remove-contents j =
       by-test (sameName j nm)
       (λ t. gone-name j t ∙ sym (cond-yes (sameName j nm) none (contents B img j) t))

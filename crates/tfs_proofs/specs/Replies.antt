@@ -1,5 +1,5 @@
 -- What holds of every request, request by request.
-use mathlib.Core.Path.{_≡_, refl, sym, ap, ap₂, subst}
+use mathlib.Core.Path.{_≡_, refl, sym, _∙_, ap, ap₂, subst}
 use mathlib.Core.Logic.{_≢_, _↔_}
 use mathlib.Core.Bool.{not}
 use Prim.Native.Nat.{ℕ}
@@ -11,7 +11,7 @@ use Rattle.tfs_spec.specs.Layout.{BlockSize}
 use Rattle.tfs_spec.specs.View.{view}
 use Rattle.tfs_spec.specs.Check.{Verdict, consistent, broken, check}
 use Rattle.tfs_spec.specs.Consistent.{Consistent, FirstBroken}
-use Rattle.tfs_spec.specs.Requests.{Answer, done, value, unused, file, refused, granted, checked, Filled, checkAnswer, openAnswer, create, remove, read, write, listAnswer, freeAnswer, Change, creates, removes, writes, perform, Request, changes, checks, opens, reads, lists, counts, lent, reply}
+use Rattle.tfs_spec.specs.Requests.{Answer, done, value, unused, file, refused, granted, Outcome, refuse, checked, checkAnswer, openAnswer, create, remove, read, write, listAnswer, freeAnswer, Change, creates, removes, writes, perform, Request, changes, checks, opens, reads, lists, counts, lent, reply}
 use Rattle.tfs_spec.specs.Answers.{Numbered, checkThen, ownNumbers, Rule}
 use Rattle.tfs_spec.specs.Effects.{SameRead, Beyond, SameVolume, Kept}
 use Rattle.tfs_facts.specs.CheckMeans.{check-means, check-breaks}
@@ -50,7 +50,7 @@ faulty B sz img bad = go (check B img) refl
     go consistent e = absurd (bad (check-means B sz img .0 e))
     go (broken num p) e = (num, p, check-breaks B sz img num p .0 e)
 
-pub fault-reply : (B : ℕ) → BlockSize B → (img : List ℕ) (num p : ℕ) → FirstBroken B img num p → (r : Request) → reply B img r ≡ record { answer = refused num p; image = img; buffer = lent r }
+pub fault-reply : (B : ℕ) → BlockSize B → (img : List ℕ) (num p : ℕ) → FirstBroken B img num p → (r : Request) → reply B img r ≡ refuse img (lent r) num p
 unfolding perform create remove write checkAnswer openAnswer read listAnswer freeAnswer
 fault-reply B sz img num p first (changes (creates nm z)) = rw (check-breaks B sz img num p .1 first)
 fault-reply B sz img num p first (changes (removes nm)) = rw (check-breaks B sz img num p .1 first)
@@ -81,12 +81,34 @@ numbered B sz img r = go (check B img) refl
         let first : FirstBroken B img num p = check-breaks B sz img num p .0 e in
         subst (Numbered (checkThen (ownNumbers r))) (sym (ap (λ x. x .answer) (fault-reply B sz img num p first r))) (broken-numbered B img (ownNumbers r) num p (first .here))
 
+-- ---- a change leaves no buffer, a read the image
+fills-none : (x : Verdict) (img : List ℕ) (o : Outcome) → o .buffer ≡ [] → checked x (refuse img []) o .buffer ≡ []
+fills-none consistent img o e = e
+fills-none (broken num p) img o e = refl
+
+no-buffer : (B : ℕ) (img : List ℕ) (c : Change) → perform B img c .buffer ≡ []
+unfolding perform create remove write
+no-buffer B img (creates nm z) = fills-none (check B img) img _ refl
+no-buffer B img (removes nm) = fills-none (check B img) img _ refl
+no-buffer B img (writes h o bs) = fills-none (check B img) img _ refl
+
+same-buffer : (B : ℕ) (a b : List ℕ) (c : Change) → perform B a c .buffer ≡ perform B b c .buffer
+same-buffer B a b c = no-buffer B a c ∙ sym (no-buffer B b c)
+
+keeps-image : (x : Verdict) (img buf : List ℕ) (o : Outcome) → o .image ≡ img → checked x (refuse img buf) o .image ≡ img
+keeps-image consistent img buf o e = e
+keeps-image (broken num p) img buf o e = refl
+
+read-image : (B : ℕ) (img : List ℕ) (h o : ℕ) (buf : List ℕ) → read B img h o buf .image ≡ img
+unfolding read
+read-image B img h o buf = keeps-image (check B img) img buf _ refl
+
 -- ---- a refusal leaves image and buffer
 pub keeps : (B : ℕ) (img : List ℕ) (r : Request) → T (not (granted (reply B img r .answer))) → (reply B img r .image ≡ img) × (reply B img r .buffer ≡ lent r)
-keeps B img (changes c) t = (refused-keeps B img c t, refl)
+keeps B img (changes c) t = (refused-keeps B img c t, no-buffer B img c)
 keeps B img checks t = (refl, refl)
 keeps B img (opens nm) t = (refl, refl)
-keeps B img (reads h o buf) t = (refl, read-refused B img h o buf t)
+keeps B img (reads h o buf) t = (read-image B img h o buf, read-refused B img h o buf t)
 keeps B img (lists s) t = (refl, refl)
 keeps B img counts t = (refl, refl)
 
@@ -99,13 +121,12 @@ kept B sz img (writes h o bs) = write-kept sz img h o bs
 
 pub ignored-reply : (B : ℕ) → BlockSize B → (a b : List ℕ) → SameRead B a b → (r : Request) → (reply B a r .answer ≡ reply B b r .answer) × (reply B a r .buffer ≡ reply B b r .buffer)
 unfolding perform checkAnswer
-ignored-reply B sz a b same (changes (creates nm z)) = (ignored B sz a b same .create-same nm z, refl)
-ignored-reply B sz a b same (changes (removes nm)) = (ignored B sz a b same .remove-same nm, refl)
-ignored-reply B sz a b same (changes (writes h o bs)) = (ignored B sz a b same .write-same h o bs, refl)
+ignored-reply B sz a b same (changes (creates nm z)) = (ignored B sz a b same .create-same nm z, same-buffer B a b (creates nm z))
+ignored-reply B sz a b same (changes (removes nm)) = (ignored B sz a b same .remove-same nm, same-buffer B a b (removes nm))
+ignored-reply B sz a b same (changes (writes h o bs)) = (ignored B sz a b same .write-same h o bs, same-buffer B a b (writes h o bs))
 ignored-reply B sz a b same checks = (ap (λ (x : Verdict). checked x refused done) (ignored B sz a b same .check-same), refl)
 ignored-reply B sz a b same (opens nm) = (ignored B sz a b same .open-same nm, refl)
-ignored-reply B sz a b same (reads h o buf) =
-    (ap (λ (f : Filled). f .answer) (ignored B sz a b same .read-same h o buf), ap (λ (f : Filled). f .buffer) (ignored B sz a b same .read-same h o buf))
+ignored-reply B sz a b same (reads h o buf) = ignored B sz a b same .read-same h o buf
 ignored-reply B sz a b same (lists s) = (ignored B sz a b same .list-same s, refl)
 ignored-reply B sz a b same counts = (ignored B sz a b same .free-same, refl)
 
@@ -117,18 +138,19 @@ tail-kept-by B sz img (changes (removes nm)) = tail-kept sz img .removed nm
 tail-kept-by B sz img (changes (writes h o bs)) = tail-kept sz img .written h o bs
 tail-kept-by B sz img checks = record { long = refl; bytes = λ q h. refl }
 tail-kept-by B sz img (opens nm) = record { long = refl; bytes = λ q h. refl }
-tail-kept-by B sz img (reads h o buf) = record { long = refl; bytes = λ q h. refl }
+tail-kept-by B sz img (reads h o buf) = rw (read-image B img h o buf) (record { long = refl; bytes = λ q h. refl })
 tail-kept-by B sz img (lists s) = record { long = refl; bytes = λ q h. refl }
 tail-kept-by B sz img counts = record { long = refl; bytes = λ q h. refl }
 
 pub tail-unread-by : (B : ℕ) → BlockSize B → (a b : List ℕ) → SameVolume B a b → (r : Request) → (reply B a r .answer ≡ reply B b r .answer) × (reply B a r .buffer ≡ reply B b r .buffer) × SameVolume B (reply B a r .image) (reply B b r .image)
 unfolding perform
-tail-unread-by B sz a b same (changes (creates nm z)) = (tail-unread sz a b same .create-answer nm z, refl, tail-unread sz a b same .created nm z)
-tail-unread-by B sz a b same (changes (removes nm)) = (tail-unread sz a b same .remove-answer nm, refl, tail-unread sz a b same .removed nm)
-tail-unread-by B sz a b same (changes (writes h o bs)) = (tail-unread sz a b same .write-answer h o bs, refl, tail-unread sz a b same .written h o bs)
+tail-unread-by B sz a b same (changes (creates nm z)) = (tail-unread sz a b same .create-answer nm z, same-buffer B a b (creates nm z), tail-unread sz a b same .created nm z)
+tail-unread-by B sz a b same (changes (removes nm)) = (tail-unread sz a b same .remove-answer nm, same-buffer B a b (removes nm), tail-unread sz a b same .removed nm)
+tail-unread-by B sz a b same (changes (writes h o bs)) = (tail-unread sz a b same .write-answer h o bs, same-buffer B a b (writes h o bs), tail-unread sz a b same .written h o bs)
 tail-unread-by B sz a b same checks = (tail-unread sz a b same .check-answer, refl, same)
 tail-unread-by B sz a b same (opens nm) = (tail-unread sz a b same .open-answer nm, refl, same)
 tail-unread-by B sz a b same (reads h o buf) =
-    (ap (λ (f : Filled). f .answer) (tail-unread sz a b same .read-outcome h o buf), ap (λ (f : Filled). f .buffer) (tail-unread sz a b same .read-outcome h o buf), same)
+    let r = tail-unread sz a b same .read-outcome h o buf in
+    (r .0, r .1, rw (read-image B a h o buf, read-image B b h o buf) same)
 tail-unread-by B sz a b same (lists s) = (tail-unread sz a b same .list-answer s, refl, same)
 tail-unread-by B sz a b same counts = (tail-unread sz a b same .free-answer, refl, same)

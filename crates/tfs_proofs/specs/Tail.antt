@@ -18,9 +18,10 @@ use Rattle.tfs_spec.specs.View.{View, view, viewN, inodeAt, size as fileSize, n
 use Rattle.tfs_spec.specs.Check.{Verdict, consistent, broken, check, checkView, tooShort}
 use Rattle.tfs_spec.specs.Consistent.{Sound}
 use Rattle.tfs_facts.specs.CheckMeans.{check-means}
-use Rattle.tfs_spec.specs.Requests.{Answer, done, value, granted, Outcome, Filled, checked, refuse, Store, stored, storeAll, formatStores, format, checkAnswer, openView, openAnswer, createStores, createView, create, removeStores, removeView, remove, counted, transferView, readBuffer, read, writeImage, write, listView, listAnswer, freeAnswer, refuseFilled, refused}
+use Rattle.tfs_spec.specs.Requests.{Answer, done, value, granted, Outcome, checked, refuse, Store, stored, storeAll, formatStores, format, checkAnswer, openView, openAnswer, createStores, createView, create, removeStores, removeView, remove, counted, transferView, readBuffer, read, writeImage, write, listView, listAnswer, freeAnswer, refused}
 use Rattle.tfs_facts.specs.Sizes.{after-block, in-image, in-block}
 use Rattle.tfs_facts.specs.Views.{view-n}
+use Rattle.tfs_proofs.specs.Ignored.{filled, SameFill}
 use Rattle.tfs_proofs.specs.Places.{blocks-eq, filesOf, position}
 use Rattle.tfs_proofs.specs.Writes.{step-other}
 use Rattle.tfs_proofs.specs.WriteLists.{wr, request-image, request-length, putOf}
@@ -102,7 +103,7 @@ pub record TailLaw (B : ℕ) (a b : List ℕ) : Type 0 where
   pub list-answer : (s : ℕ) → listAnswer B a s ≡ listAnswer B b s
   pub free-answer : freeAnswer B a ≡ freeAnswer B b
   -- answer and buffer
-  pub read-outcome : (h o : ℕ) (buf : List ℕ) → read B a h o buf ≡ read B b h o buf
+  pub read-outcome : (h o : ℕ) (buf : List ℕ) → SameFill (read B a h o buf) (read B b h o buf)
   pub formatted : (label : List ℕ) → SameVolume B (format B a label .image) (format B b label .image)
   pub created : (nm : List ℕ) (sz : ℕ) → SameVolume B (create B a nm sz .image) (create B b nm sz .image)
   pub removed : (nm : List ℕ) → SameVolume B (remove B a nm .image) (remove B b nm .image)
@@ -170,7 +171,7 @@ agree-bytes at end (x ∷ bs) a b o low la lb same =
     (rw length-set la) (rw length-set lb) (agree-set end a b (at o) x (low o (omega arith) (omega arith)) la lb same)
 
 -- an answer does not tell the image
-outcome-answer : (x : Verdict) (img : List ℕ) (o : Outcome) → checked x (refuse img) o .answer ≡ checked x refused (o .answer)
+outcome-answer : (x : Verdict) (img : List ℕ) (o : Outcome) → checked x (refuse img []) o .answer ≡ checked x refused (o .answer)
 outcome-answer consistent img o = refl
 outcome-answer (broken num p) img o = refl
 
@@ -251,7 +252,7 @@ module _ {B : ℕ} (size : BlockSize B) (a b : List ℕ) (same : SameVolume B a 
       (length-storeAll B xs a (fits-up B end (length a) end-a xs f)) (length-storeAll B xs b (fits-up B end (length b) (volume-end B b) xs f))
       (agree-stores B end xs a b f end-a (volume-end B b) agree)
 
-  same-outcome : (verdict : Verdict) (x : Answer) (xs : List Store) → (verdict ≡ consistent → T (granted x) → Fits B end xs) → SameVolume B (checked verdict (refuse a) (stored B a x xs) .image) (checked verdict (refuse b) (stored B b x xs) .image)
+  same-outcome : (verdict : Verdict) (x : Answer) (xs : List Store) → (verdict ≡ consistent → T (granted x) → Fits B end xs) → SameVolume B (checked verdict (refuse a []) (stored B a x xs) .image) (checked verdict (refuse b []) (stored B b x xs) .image)
   same-outcome consistent x xs f = go (granted x) (λ e. f refl e)
     where
       go : (g : Bool) → (T g → Fits B end xs) → SameVolume B (cond g (storeAll B a xs) a) (cond g (storeAll B b xs) b)
@@ -272,7 +273,7 @@ module _ {B : ℕ} (size : BlockSize B) (a b : List ℕ) (same : SameVolume B a 
   unfolding create
   create-same nm sz =
       subst (λ (x : List ℕ). SameVolume B x (create B b nm sz .image))
-      (sym (alike (λ (x : Verdict) (v : View). checked x (refuse a) (stored B a (createView B v nm sz) (createStores B v nm sz)) .image) (λ num p v w. refl)))
+      (sym (alike (λ (x : Verdict) (v : View). checked x (refuse a []) (stored B a (createView B v nm sz) (createStores B v nm sz)) .image) (λ num p v w. refl)))
       (same-outcome (check B b) (createView B (view B b) nm sz) (createStores B (view B b) nm sz)
       (λ e g. create-fits size b nm sz e (create-grant B (view B b) nm sz g)))
 
@@ -280,20 +281,15 @@ module _ {B : ℕ} (size : BlockSize B) (a b : List ℕ) (same : SameVolume B a 
   unfolding remove
   remove-same nm =
       subst (λ (x : List ℕ). SameVolume B x (remove B b nm .image))
-      (sym (alike (λ (x : Verdict) (v : View). checked x (refuse a) (stored B a (removeView B v nm) (removeStores B v nm)) .image) (λ num p v w. refl)))
+      (sym (alike (λ (x : Verdict) (v : View). checked x (refuse a []) (stored B a (removeView B v nm) (removeStores B v nm)) .image) (λ num p v w. refl)))
       (same-outcome (check B b) (removeView B (view B b) nm) (removeStores B (view B b) nm)
       (λ e g. remove-fits B size b (check-means B size b .0 e) nm (remove-granted B b e nm (subst (λ (o : Outcome). T (granted (o .answer))) (sym (remove-is B b e nm)) g))))
 
   module _ (h o : ℕ) (buf : List ℕ) where
     abbrev written : List ℕ → Verdict → View → Outcome
     written img x v =
-        checked x (refuse img)
-        (record { answer = transferView B v h o (length buf); image = cond (granted (transferView B v h o (length buf))) (writeImage B v img (slotWith B v h) o buf) img })
-
-    abbrev filled : List ℕ → Verdict → View → Filled
-    filled img x v =
-        checked x (refuseFilled buf)
-        (record { answer = transferView B v h o (length buf); buffer = cond (granted (transferView B v h o (length buf))) (readBuffer B v img (slotWith B v h) o buf) buf })
+        checked x (refuse img [])
+        (record { answer = transferView B v h o (length buf); image = cond (granted (transferView B v h o (length buf))) (writeImage B v img (slotWith B v h) o buf) img; buffer = [] })
 
     -- a position that a transfer reaches is one of its file
     reached : Sound B (view B b) → (s c p : ℕ) → c ≤ fileSize (view B b) s - o → o ≤ p → p < o + c → place B (view B b) s p < end
@@ -331,17 +327,15 @@ module _ {B : ℕ} (size : BlockSize B) (a b : List ℕ) (same : SameVolume B a 
         go consistent e = put (check-means B size b .0 e .sound) (granted (transferView B (view B b) h o (length buf)))
         go (broken num p) e = same
 
-    read-same : read B a h o buf ≡ read B b h o buf
+    read-same : SameFill (read B a h o buf) (read B b h o buf)
     unfolding read
-    read-same = alike (filled a) (λ num p v w. refl) ∙ go (check B b) refl
+    read-same =
+        subst (λ (x : Outcome). SameFill x (read B b h o buf)) (sym (alike (filled B h o buf a) (λ num p v w. refl))) (go (check B b) refl)
       where
-        go : (x : Verdict) → check B b ≡ x → filled a x (view B b) ≡ filled b x (view B b)
-        go consistent e = λ i.
-            record {
-              answer = transferView B (view B b) h o (length buf);
-              buffer = cond (granted (transferView B (view B b) h o (length buf))) (same-read (check-means B size b .0 e .sound) (slotWith B (view B b) h) i) buf;
-            }
-        go (broken num p) e = refl
+        go : (x : Verdict) → check B b ≡ x → SameFill (filled B h o buf a x (view B b)) (filled B h o buf b x (view B b))
+        go consistent e =
+            (refl, ap (λ (x : List ℕ). cond (granted (transferView B (view B b) h o (length buf))) x buf) (same-read (check-means B size b .0 e .sound) (slotWith B (view B b) h)))
+        go (broken num p) e = (refl, refl)
 
   format-alike : (label : List ℕ) → format B a label .answer ≡ format B b label .answer
   unfolding format
@@ -349,12 +343,12 @@ module _ {B : ℕ} (size : BlockSize B) (a b : List ℕ) (same : SameVolume B a 
       ap (λ (x : Bool). formatted a x .answer) short-alike ∙ still (tooShort B b) (not (labelAllowed label))
     where
       after : List ℕ → Outcome
-      after img = record { answer = done; image = storeAll B img (formatStores B label) }
+      after img = record { answer = done; image = storeAll B img (formatStores B label); buffer = [] }
 
       formatted : List ℕ → Bool → Outcome
-      formatted img x = cond x (refuse img 1 0) (cond (not (labelAllowed label)) (refuse img 8 0) (after img))
+      formatted img x = cond x (refuse img [] 1 0) (cond (not (labelAllowed label)) (refuse img [] 8 0) (after img))
 
-      still : (x y : Bool) → cond x (refuse a 1 0) (cond y (refuse a 8 0) (after a)) .answer ≡ cond x (refuse b 1 0) (cond y (refuse b 8 0) (after b)) .answer
+      still : (x y : Bool) → cond x (refuse a [] 1 0) (cond y (refuse a [] 8 0) (after a)) .answer ≡ cond x (refuse b [] 1 0) (cond y (refuse b [] 8 0) (after b)) .answer
       still true y = refl
       still false true = refl
       still false false = refl

@@ -4,7 +4,7 @@ use mathlib.Core.Logic.{_≢_}
 use mathlib.Core.Bool.{Bool, not, cond, _&&_}
 use Prim.Native.Nat.{ℕ, _+_, _-_, _≤_, _<_}
 use mathlib.Core.List.{List}
-use mathlib.Core.Option.{none, some}
+use mathlib.Core.Option.{none, some, Option·map}
 use native.Mathlib.Omega.{arith}
 use lib.ListN.{length, getD, length-take}
 use lib.Dec.{T, leb, ltb, eqb, leb→le, ltb→lt, le→leb, lt→ltb, T-not}
@@ -18,7 +18,7 @@ use Rattle.tfs_proofs.specs.Content.{standing, contents-at, contents-in,
 use Rattle.tfs_proofs.specs.Writes.{put, effect, step, covers, covered, uncovered, Covered, step-byte}
 use Rattle.tfs_proofs.specs.Places.{filesOf, laid, view-kept}
 use Rattle.tfs_facts.specs.Names.{slot-hit, slot-is}
-use Rattle.tfs_spec.specs.Effects.{change, over, wrote}
+use Rattle.tfs_spec.specs.Effects.{change, over}
 
 module _ (B : ℕ) (pos : 0 < B) (img : List ℕ) (ok : Sound B (view B img)) (s : ℕ) (f : File B (view B img) s) (o : ℕ) (bs : List ℕ) where
   abbrev v : View
@@ -59,21 +59,21 @@ module _ (B : ℕ) (pos : 0 < B) (img : List ℕ) (ok : Sound B (view B img)) (s
       ∙ cond-no (covers (filesOf B v) (put s o bs) t p) (getD bs (p - o) 0) (getD img (place B v t p) 0)
       (no-and (eqb s t) (leb o p && ltb p (o + length (effect (filesOf B v) (put s o bs)))) (neqb-of s t (λ e. d (sym e)))))
 
-  pub write-contents : (j : List ℕ) → contents B new j ≡ change (name v s) (wrote o bs) (contents B img) j
+  pub write-contents : (j : List ℕ) → contents B new j ≡ change (name v s) (Option·map (over o bs)) (contents B img) j
   write-contents j =
       contents-in B new img j (view-kept B pos img ok (put s o bs))
       ∙ by-test (sameName j (name v s)) here there
     where
-      here : T (sameName j (name v s)) → standing B v new (slotOf B v j) ≡ change (name v s) (wrote o bs) (contents B img) j
+      here : T (sameName j (name v s)) → standing B v new (slotOf B v j) ≡ change (name v s) (Option·map (over o bs)) (contents B img) j
       here t =
           let e : slotOf B v j ≡ s = slot-is B v j (ok .apart) s f (same-sym j (name v s) t) in
           ap (standing B v new) e
           ∙ standing-map B v new img s (over o bs) content-written
-          ∙ ap (λ (x : ℕ). wrote o bs (standing B v img x)) (sym e)
-          ∙ ap (wrote o bs) (sym (contents-at B img j))
-          ∙ sym (cond-yes (sameName j (name v s)) (wrote o bs (contents B img j)) (contents B img j) t)
+          ∙ ap (λ (x : ℕ). Option·map (over o bs) (standing B v img x)) (sym e)
+          ∙ ap (Option·map (over o bs)) (sym (contents-at B img j))
+          ∙ sym (cond-yes (sameName j (name v s)) (Option·map (over o bs) (contents B img j)) (contents B img j) t)
 
-      there : T (not (sameName j (name v s))) → standing B v new (slotOf B v j) ≡ change (name v s) (wrote o bs) (contents B img) j
+      there : T (not (sameName j (name v s))) → standing B v new (slotOf B v j) ≡ change (name v s) (Option·map (over o bs)) (contents B img) j
       there t =
           by-test (ltb (slotOf B v j) (slots B))
           (λ l.
@@ -84,4 +84,4 @@ module _ (B : ℕ) (pos : 0 < B) (img : List ℕ) (ok : Sound B (view B img)) (s
           cond-no (ltb (slotOf B v j) (slots B)) (some (content B v new (slotOf B v j))) none l
           ∙ sym (cond-no (ltb (slotOf B v j) (slots B)) (some (content B v img (slotOf B v j))) none l))
           ∙ sym (contents-at B img j)
-          ∙ sym (cond-no (sameName j (name v s)) (wrote o bs (contents B img j)) (contents B img j) t)
+          ∙ sym (cond-no (sameName j (name v s)) (Option·map (over o bs) (contents B img j)) (contents B img j) t)

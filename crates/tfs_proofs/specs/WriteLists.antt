@@ -16,7 +16,7 @@ use mathlib.Core.Option.{Option·map}
 use Rattle.tfs_spec.specs.View.{View, view, free, inode, size, slotWith, slotOf, place}
 use Rattle.tfs_spec.specs.Check.{consistent, broken, check, checkView, tooShort}
 use Rattle.tfs_spec.specs.Consistent.{Sound}
-use Rattle.tfs_spec.specs.Requests.{Answer, value, file, refused, granted, counted, transferView, writeImage, write}
+use Rattle.tfs_spec.specs.Requests.{Answer, value, refused, granted, counted, transferView, writeImage, write}
 use Rattle.tfs_spec.specs.Laws.{Write, request, after, answers, countOf, coversAt, lastAt, WritesLaw, piecesImage, piecesCount, PiecesLaw}
 use Rattle.tfs_facts.specs.Views.{inodes-out, has}
 use Rattle.tfs_proofs.specs.Content.{contents-at, contents-in, standing-map, content-by}

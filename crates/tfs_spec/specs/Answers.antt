@@ -11,7 +11,7 @@ use Rattle.tfs_spec.specs.Layout.{slots, maxSize, need, mapBit, labelAll
 use Rattle.tfs_spec.specs.View.{View, view, free, inode, name, size, freeBlocks}
 use Rattle.tfs_spec.specs.Check.{consistent, broken, check}
 use Rattle.tfs_spec.specs.Consistent.{File, Consistent, FirstBroken}
-use Rattle.tfs_spec.specs.Requests.{Answer, done, value, unused, file, refused, granted, format, checkAnswer, create, creates, removes, writes, Request, changes, checks, opens, reads, lists, counts, lent, reply}
+use Rattle.tfs_spec.specs.Requests.{Answer, done, value, unused, file, refused, granted, refuse, format, checkAnswer, creates, removes, writes, Request, changes, checks, opens, reads, lists, counts, lent, reply}
 
 -- ---- the check
 pub record CheckLaws (B : ℕ) (img : List ℕ) : Type 0 where
@@ -23,7 +23,7 @@ pub record CheckLaws (B : ℕ) (img : List ℕ) : Type 0 where
   pub refuses : (num p : ℕ) → (checkAnswer B img ≡ refused num p) ↔ FirstBroken B img num p
   -- "Every request but format refuses a volume that breaks the consistency rules, with the first fault and its place"
   pub faulty : (Consistent B img → ⊥) → (num : ℕ) × (p : ℕ) × FirstBroken B img num p
-  pub refused-by-all : (num p : ℕ) → FirstBroken B img num p → (r : Request) → reply B img r ≡ record { answer = refused num p; image = img; buffer = lent r }
+  pub refused-by-all : (num p : ℕ) → FirstBroken B img num p → (r : Request) → reply B img r ≡ refuse img (lent r) num p
 
 -- ---- refusals
 -- a grant, or a refusal with one of the numbers; "Refusals 8 to 15 have place 0"
@@ -151,18 +151,9 @@ Rule B v (reads h o buf) a = TransferRule B v h o (length buf) a
 Rule B v (lists s) a = ListRule B v s a
 Rule B v counts a = value (B * freeBlocks v) ≡ a
 
--- what create asks: all of it, and no more
-pub record CreateGranted (B : ℕ) (v : View) (nm : List ℕ) (z : ℕ) : Type 0 where
-  pub named : NameRule nm
-  pub small : z ≤ maxSize B
-  pub fresh : Fresh B v nm
-  pub slot : (s : ℕ) × Vacant B v s
-  pub room : 1 + need B z ≤ freeBlocks v
-
 pub record GrantLaws (B : ℕ) (img : List ℕ) : Type 0 where
   -- "On a consistent volume every request is granted exactly when the written .. rules grant it": an answer is given exactly in its case of the table
   pub answers : Consistent B img → (r : Request) (a : Answer) → (reply B img r .answer ≡ a) ↔ Rule B (view B img) r a
-  pub creating : Consistent B img → (nm : List ℕ) (z : ℕ) → T (granted (create B img nm z .answer)) ↔ CreateGranted B (view B img) nm z
   -- format's, of any image
   pub formatting : (label : List ℕ) (a : Answer) → (format B img label .answer ≡ a) ↔ FormatRule B img label a
   -- which names requests take, and which format takes as the volume's

@@ -29,25 +29,15 @@ pub record ContentLaws (B : ℕ) (img : List ℕ) : Type 0 where
 abbrev pub change : List ℕ → (Option (List ℕ) → Option (List ℕ)) → Contents → Contents
 change k g c j = cond (sameName j k) (g (c j)) (c j)
 
--- create: zeros of the asked size
-abbrev pub made : ℕ → Option (List ℕ) → Option (List ℕ)
-made sz old = some (zeros sz)
-
--- remove
-abbrev pub gone : Option (List ℕ) → Option (List ℕ)
-gone old = none
-
--- write: bytes laid over a content from o on, as far as it reaches
+-- bytes laid over a content from o on, as far as it reaches
 abbrev pub over : ℕ → List ℕ → List ℕ → List ℕ
 over o bs old = table (λ p. cond (leb o p && ltb p (o + length bs)) (getD bs (p - o) 0) (getD old p 0)) 0 (length old)
 
-abbrev pub wrote : ℕ → List ℕ → Option (List ℕ) → Option (List ℕ)
-wrote o bs = Option·map (over o bs)
-
+-- what becomes of what stands under the request's name
 abbrev pub effectOf : Change → Option (List ℕ) → Option (List ℕ)
-effectOf (creates nm z) = made z
-effectOf (removes nm) = gone
-effectOf (writes h o bs) = wrote o bs
+effectOf (creates nm z) old = some (zeros z)
+effectOf (removes nm) old = none
+effectOf (writes h o bs) old = Option·map (over o bs) old
 
 -- the name that a request is on; "a write's name is that of the file its handle means"
 unfoldable pub nameOn : ℕ → View → Change → List ℕ

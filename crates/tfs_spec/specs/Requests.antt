@@ -28,22 +28,15 @@ granted unused = true
 granted (file nm i z) = true
 granted (refused num p) = false
 
--- what a request answers, and the image that it leaves
+-- what a request answers, and the image and the buffer that it leaves; [] where no buffer is lent for writing
 pub record Outcome : Type 0 where
   pub answer : Answer
   pub image : List ℕ
-
--- what read answers, and the buffer that it leaves
-pub record Filled : Type 0 where
-  pub answer : Answer
   pub buffer : List ℕ
 
 -- "A refusal leaves the image and lent buffers unchanged"
-abbrev pub refuse : List ℕ → ℕ → ℕ → Outcome
-refuse img num p = record { answer = refused num p; image = img }
-
-abbrev pub refuseFilled : List ℕ → ℕ → ℕ → Filled
-refuseFilled buf num p = record { answer = refused num p; buffer = buf }
+abbrev pub refuse : List ℕ → List ℕ → ℕ → ℕ → Outcome
+refuse img buf num p = record { answer = refused num p; image = img; buffer = buf }
 
 -- "Every request but format runs the check first and gives its refusal": that refusal, or what the request's step gives
 abbrev pub checked : {A : Type 0} → Verdict → (ℕ → ℕ → A) → A → A
@@ -73,9 +66,9 @@ formatStores B label =
 
 unfoldable pub format : ℕ → List ℕ → List ℕ → Outcome
 format B img label =
-    let after : Outcome = record { answer = done; image = storeAll B img (formatStores B label) } in
-    cond (tooShort B img) (refuse img 1 0)
-    (cond (not (labelAllowed label)) (refuse img 8 0) after)
+    let after : Outcome = record { answer = done; image = storeAll B img (formatStores B label); buffer = [] } in
+    cond (tooShort B img) (refuse img [] 1 0)
+    (cond (not (labelAllowed label)) (refuse img [] 8 0) after)
 
 -- ---- check
 unfoldable pub checkAnswer : ℕ → List ℕ → Answer
@@ -134,13 +127,13 @@ createView B v nm sz =
 
 -- the image after: that of the stores where the answer is a grant
 abbrev pub stored : ℕ → List ℕ → Answer → List Store → Outcome
-stored B img a xs = record { answer = a; image = cond (granted a) (storeAll B img xs) img }
+stored B img a xs = record { answer = a; image = cond (granted a) (storeAll B img xs) img; buffer = [] }
 
 abbrev pub createStep : ℕ → List ℕ → List ℕ → ℕ → Outcome
 createStep B img nm sz = stored B img (createView B (view B img) nm sz) (createStores B (view B img) nm sz)
 
 unfoldable pub create : ℕ → List ℕ → List ℕ → ℕ → Outcome
-create B img nm sz = checked (check B img) (refuse img) (createStep B img nm sz)
+create B img nm sz = checked (check B img) (refuse img []) (createStep B img nm sz)
 
 -- ---- remove: 8, 13
 -- "clears the bits of inode and content, zeros the 20 bytes of the slot": directory, map
@@ -160,7 +153,7 @@ abbrev pub removeStep : ℕ → List ℕ → List ℕ → Outcome
 removeStep B img nm = stored B img (removeView B (view B img) nm) (removeStores B (view B img) nm)
 
 unfoldable pub remove : ℕ → List ℕ → List ℕ → Outcome
-remove B img nm = checked (check B img) (refuse img) (removeStep B img nm)
+remove B img nm = checked (check B img) (refuse img []) (removeStep B img nm)
 
 -- ---- read and write: 14, 15
 -- "count = smaller of buffer length and size − offset"
@@ -180,14 +173,14 @@ readBuffer B v img s o buf =
     let c : ℕ = counted v s o (length buf) in
     table (λ p. getD img (place B v s p) 0) o c ++ drop c buf
 
-abbrev pub readStep : ℕ → List ℕ → ℕ → ℕ → List ℕ → Filled
+abbrev pub readStep : ℕ → List ℕ → ℕ → ℕ → List ℕ → Outcome
 readStep B img h o buf =
     let v : View = view B img in
     let a : Answer = transferView B v h o (length buf) in
-    record { answer = a; buffer = cond (granted a) (readBuffer B v img (slotWith B v h) o buf) buf }
+    record { answer = a; image = img; buffer = cond (granted a) (readBuffer B v img (slotWith B v h) o buf) buf }
 
-unfoldable pub read : ℕ → List ℕ → ℕ → ℕ → List ℕ → Filled
-read B img h o buf = checked (check B img) (refuseFilled buf) (readStep B img h o buf)
+unfoldable pub read : ℕ → List ℕ → ℕ → ℕ → List ℕ → Outcome
+read B img h o buf = checked (check B img) (refuse img buf) (readStep B img h o buf)
 
 -- "Write changes only those content bytes"
 unfoldable pub writeImage : ℕ → View → List ℕ → ℕ → ℕ → List ℕ → List ℕ
@@ -197,10 +190,10 @@ abbrev pub writeStep : ℕ → List ℕ → ℕ → ℕ → List ℕ → Outcome
 writeStep B img h o buf =
     let v : View = view B img in
     let a : Answer = transferView B v h o (length buf) in
-    record { answer = a; image = cond (granted a) (writeImage B v img (slotWith B v h) o buf) img }
+    record { answer = a; image = cond (granted a) (writeImage B v img (slotWith B v h) o buf) img; buffer = [] }
 
 unfoldable pub write : ℕ → List ℕ → ℕ → ℕ → List ℕ → Outcome
-write B img h o buf = checked (check B img) (refuse img) (writeStep B img h o buf)
+write B img h o buf = checked (check B img) (refuse img []) (writeStep B img h o buf)
 
 -- ---- list: "slot over 24" is 14; "a free slot, or name, inode number and size"
 unfoldable pub listView : ℕ → View → ℕ → Answer
@@ -246,12 +239,6 @@ pub data Request : Type 0 where
   lists : ℕ → Request
   counts : Request
 
--- what a request answers, and the image and the buffer that it leaves; no buffer is []
-pub record Reply : Type 0 where
-  pub answer : Answer
-  pub image : List ℕ
-  pub buffer : List ℕ
-
 -- the buffer that is lent for writing
 abbrev pub lent : Request → List ℕ
 lent (changes c) = []
@@ -262,13 +249,16 @@ lent (lists s) = []
 lent counts = []
 
 -- check, open, read, list and free bytes take the image for reading only, so that it stays is in the type of their code
-abbrev pub reply : ℕ → List ℕ → Request → Reply
-reply B img (changes c) = record { answer = perform B img c .answer; image = perform B img c .image; buffer = [] }
-reply B img checks = record { answer = checkAnswer B img; image = img; buffer = [] }
-reply B img (opens nm) = record { answer = openAnswer B img nm; image = img; buffer = [] }
-reply B img (reads h o buf) = record { answer = read B img h o buf .answer; image = img; buffer = read B img h o buf .buffer }
-reply B img (lists s) = record { answer = listAnswer B img s; image = img; buffer = [] }
-reply B img counts = record { answer = freeAnswer B img; image = img; buffer = [] }
+abbrev pub tell : List ℕ → Answer → Outcome
+tell img a = record { answer = a; image = img; buffer = [] }
+
+abbrev pub reply : ℕ → List ℕ → Request → Outcome
+reply B img (changes c) = perform B img c
+reply B img checks = tell img (checkAnswer B img)
+reply B img (opens nm) = tell img (openAnswer B img nm)
+reply B img (reads h o buf) = read B img h o buf
+reply B img (lists s) = tell img (listAnswer B img s)
+reply B img counts = tell img (freeAnswer B img)
 
 -- "each request gets the image the last one left"
 unfoldable pub afterAll : ℕ → List ℕ → List Change → List ℕ

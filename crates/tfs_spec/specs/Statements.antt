@@ -1,4 +1,4 @@
--- The statements, each as a closed type with its premises. Each is proved, under the same name, in tfs_proofs/specs/Proved.antt.
+-- The statements, each with its premises. tfs_proofs/specs/Proved.antt proves each.
 use mathlib.Core.Path.{_≡_}
 use Prim.Native.Nat.{ℕ, _*_, _≤_}
 use mathlib.Core.List.{List}
@@ -12,53 +12,23 @@ use Rattle.tfs_spec.specs.Effects.{ContentLaws, ChangeLaws, TouchLaws, F
 use Rattle.tfs_spec.specs.Handles.{HandleLaws}
 use Rattle.tfs_spec.specs.Laws.{RequestLaws}
 
--- ---- of every image
-abbrev pub number-laws : Type 0
-number-laws = NumberLaws
-
-abbrev pub name-laws : Type 0
-name-laws = NameLaws
-
-abbrev pub check-laws : Type 0
-check-laws = (B : ℕ) → BlockSize B → (img : List ℕ) → CheckLaws B img
-
-abbrev pub refusal-laws : Type 0
-refusal-laws = (B : ℕ) → BlockSize B → (img : List ℕ) → RefusalLaws B img
-
-abbrev pub grant-laws : Type 0
-grant-laws = (B : ℕ) → BlockSize B → (img : List ℕ) → GrantLaws B img
-
-abbrev pub read-laws : Type 0
-read-laws = (B : ℕ) (img : List ℕ) (h o : ℕ) (buf : List ℕ) (c : ℕ) → read B img h o buf .answer ≡ value c → ReadLaws B img h o buf c
-
-abbrev pub kept-laws : Type 0
-kept-laws = (B : ℕ) → BlockSize B → (img : List ℕ) → KeptLaws B img
-
--- ---- of images of three blocks or more, of images of bytes
-abbrev pub layout-laws : Type 0
-layout-laws = (B : ℕ) → BlockSize B → (img : List ℕ) → 3 * B ≤ length img → LayoutLaws B img
-
-abbrev pub format-laws : Type 0
-format-laws = (B : ℕ) → BlockSize B → (img label : List ℕ) → 3 * B ≤ length img → LabelRule label → FormatLaws B img label
-
-abbrev pub byte-laws : Type 0
-byte-laws = (B : ℕ) → BlockSize B → B ≤ 65536 → (img : List ℕ) → Bytes img → ByteLaws B img
-
--- ---- of consistent volumes
-abbrev pub content-laws : Type 0
-content-laws = (B : ℕ) → BlockSize B → (img : List ℕ) → Consistent B img → ContentLaws B img
-
-abbrev pub change-laws : Type 0
-change-laws = (B : ℕ) → BlockSize B → (img : List ℕ) → Consistent B img → ChangeLaws B img
-
-abbrev pub touch-laws : Type 0
-touch-laws = (B : ℕ) → BlockSize B → (img : List ℕ) → Consistent B img → TouchLaws B img
-
-abbrev pub room-laws : Type 0
-room-laws = (B : ℕ) → BlockSize B → (img : List ℕ) → Consistent B img → RoomLaws B img
-
-abbrev pub handle-laws : Type 0
-handle-laws = (B : ℕ) → BlockSize B → (img : List ℕ) → Consistent B img → HandleLaws B img
-
-abbrev pub request-laws : Type 0
-request-laws = (B : ℕ) → BlockSize B → (img : List ℕ) → Consistent B img → RequestLaws B img
+pub record Statements : Type 0 where
+  -- of every image
+  pub number-laws : NumberLaws
+  pub name-laws : NameLaws
+  pub check-laws : (B : ℕ) → BlockSize B → (img : List ℕ) → CheckLaws B img
+  pub refusal-laws : (B : ℕ) → BlockSize B → (img : List ℕ) → RefusalLaws B img
+  pub grant-laws : (B : ℕ) → BlockSize B → (img : List ℕ) → GrantLaws B img
+  pub read-laws : (B : ℕ) (img : List ℕ) (h o : ℕ) (buf : List ℕ) (c : ℕ) → read B img h o buf .answer ≡ value c → ReadLaws B img h o buf c
+  pub kept-laws : (B : ℕ) → BlockSize B → (img : List ℕ) → KeptLaws B img
+  -- of images of three blocks or more, of images of bytes
+  pub layout-laws : (B : ℕ) → BlockSize B → (img : List ℕ) → 3 * B ≤ length img → LayoutLaws B img
+  pub format-laws : (B : ℕ) → BlockSize B → (img label : List ℕ) → 3 * B ≤ length img → LabelRule label → FormatLaws B img label
+  pub byte-laws : (B : ℕ) → BlockSize B → B ≤ 65536 → (img : List ℕ) → Bytes img → ByteLaws B img
+  -- of consistent volumes
+  pub content-laws : (B : ℕ) → BlockSize B → (img : List ℕ) → Consistent B img → ContentLaws B img
+  pub change-laws : (B : ℕ) → BlockSize B → (img : List ℕ) → Consistent B img → ChangeLaws B img
+  pub touch-laws : (B : ℕ) → BlockSize B → (img : List ℕ) → Consistent B img → TouchLaws B img
+  pub room-laws : (B : ℕ) → BlockSize B → (img : List ℕ) → Consistent B img → RoomLaws B img
+  pub handle-laws : (B : ℕ) → BlockSize B → (img : List ℕ) → Consistent B img → HandleLaws B img
+  pub request-laws : (B : ℕ) → BlockSize B → (img : List ℕ) → Consistent B img → RequestLaws B img

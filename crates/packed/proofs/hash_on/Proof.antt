@@ -1,7 +1,7 @@
 -- `hash_on` meets its contract: the bytes from index i on are left.
-use mathlib.Core.Path.{_≡_, refl, sym, ap, _∙_}
+use mathlib.Core.Path.{_≡_, refl, sym, _∙_}
 use Prim.Native.Nat.{_≤_, _-_}
-use lib.ListN.{length, drop, drop-of-length-le}
+use lib.ListN.{length, drop}
 use denote.Ref.{now}
 use Rattle.packed.specs.Hash.{hashOn, hashStep, hash-more, hash-end}
 use borrow.Author.Needs.{needs}

@@ -3,7 +3,7 @@ use mathlib.Core.Path.{_≡_, sym, ap, _∙_}
 use denote.Ref.{now}
 use borrow.Author.Needs.{needs}
 use Rattle.tfs_spec.specs.Check.{check, consistent}
-use Rattle.tfs_spec.specs.Requests.{Filled, refuseFilled, read}
+use Rattle.tfs_spec.specs.Requests.{Outcome, refuse, read}
 use Rattle.tfs.specs.Told.{checkTold}
 use Rattle.tfs.specs.Passed.{at-fault, at-passed, fault-fits}
 use Rattle.tfs.proofs.read.Statement.{statement}
@@ -18,8 +18,8 @@ returns c =
     let found = c .before .before .before in
     let call = found .check in
     let f = c .before .f .given in
-    let e = at-fault (call .result) _ (call .ensures .0) (refuseFilled (now (found .before .before .before .args .buf))) _ (f .0 .0) (f .1) in
-    (ap (λ (o : Filled). o .answer) e, ap (λ (o : Filled). o .buffer) e, fault-fits (call .result) (f .0 .0) (f .1) (call .ensures .1))
+    let e = at-fault (call .result) _ (call .ensures .0) (refuse (now (found .before .before .before .args .image)) (now (found .before .before .before .args .buf))) _ (f .0 .0) (f .1) in
+    (ap (λ (o : Outcome). o .answer) e, ap (λ (o : Outcome). o .buffer) e, fault-fits (call .result) (f .0 .0) (f .1) (call .ensures .1))
 
 returns-2 : tie.Need-returns-2
 unfolding read
@@ -28,9 +28,9 @@ returns-2 c =
     let told = step .before .before in
     let found = told .before .before in
     let call = found .check in
-    let e = at-passed (call .result) _ (call .ensures .0) (refuseFilled (now (found .before .before .before .args .buf))) _ (told .enum-told .given .1) in (
-      c .answer-of .ensures .0 ∙ step .read-step .ensures .0 ∙ ap (λ (o : Filled). o .answer) e,
-      step .read-step .ensures .1 ∙ ap (λ (o : Filled). o .buffer) e,
+    let e = at-passed (call .result) _ (call .ensures .0) (refuse (now (found .before .before .before .args .image)) (now (found .before .before .before .args .buf))) _ (told .enum-told .given .1) in (
+      c .answer-of .ensures .0 ∙ step .read-step .ensures .0 ∙ ap (λ (o : Outcome). o .answer) e,
+      step .read-step .ensures .1 ∙ ap (λ (o : Outcome). o .buffer) e,
       c .answer-of .ensures .1,
     )
 

@@ -2,6 +2,7 @@
 use mathlib.Core.Path.{_≡_, sym, ap, _∙_}
 use denote.Ref.{now}
 use borrow.Author.Needs.{needs}
+use mathlib.Core.List.{[]}
 use Rattle.tfs_spec.specs.Check.{check, consistent}
 use Rattle.tfs_spec.specs.Requests.{Outcome, refuse, remove}
 use Rattle.tfs.specs.Told.{checkTold}
@@ -18,7 +19,7 @@ returns c =
     let found = c .before .before .before in
     let call = found .check in
     let f = c .before .f .given in
-    let e = at-fault (call .result) _ (call .ensures .0) (refuse (now (found .before .before .before .before .args .image))) _ (f .0 .0) (f .1) in
+    let e = at-fault (call .result) _ (call .ensures .0) (refuse (now (found .before .before .before .before .args .image)) []) _ (f .0 .0) (f .1) in
     (ap (λ (o : Outcome). o .answer) e, ap (λ (o : Outcome). o .image) e, fault-fits (call .result) (f .0 .0) (f .1) (call .ensures .1))
 
 returns-2 : tie.Need-returns-2
@@ -28,7 +29,7 @@ returns-2 c =
     let told = step .before .before in
     let found = told .before .before in
     let call = found .check in
-    let e = at-passed (call .result) _ (call .ensures .0) (refuse (now (found .before .before .before .before .args .image))) _ (told .enum-told .given .1) in (
+    let e = at-passed (call .result) _ (call .ensures .0) (refuse (now (found .before .before .before .before .args .image)) []) _ (told .enum-told .given .1) in (
       c .done-of .ensures .0 ∙ step .remove-step .ensures .0 ∙ ap (λ (o : Outcome). o .answer) e,
       step .remove-step .ensures .1 ∙ ap (λ (o : Outcome). o .image) e,
       c .done-of .ensures .1,
