@@ -20,15 +20,26 @@ use Rattle.romfs.specs.declared.ContentAnswer.the-variants as contents
 use Rattle.romfs.specs.declared.PartAnswer.{PartAnswer}
 use Rattle.romfs.specs.declared.PartAnswer.the-variants as parts
 
--- ---- check: 21 to 25 are faults of the volume, at 0; 26 to 29 name a header
+-- ---- a fault: 21 to 25 are those of the volume, at 0; 26 to 29 name a header
+abbrev pub faultNumber : Fault → ℕ
+faultNumber (fault.Volume n) = n
+faultNumber (fault.Header n p) = n
+
+abbrev pub faultPlace : Fault → ℕ
+faultPlace (fault.Volume n) = 0
+faultPlace (fault.Header n p) = p
+
 abbrev pub faultTold : Fault → Verdict
-faultTold (fault.Volume n) = broken n 0
-faultTold (fault.Header n p) = broken n p
+faultTold f = broken (faultNumber f) (faultPlace f)
+
+abbrev pub faultAnswer : {A : Type 0} → Fault → Answer A
+faultAnswer f = refused (faultNumber f) (faultPlace f)
 
 abbrev pub FaultFits : Fault → Type 0
 FaultFits (fault.Volume n) = (21 ≤ n) × (n ≤ 25)
 FaultFits (fault.Header n p) = (26 ≤ n) × (n ≤ 29)
 
+-- ---- the answers: 30 and 31 refuse a request, 21 to 29 an image
 abbrev pub checkTold : CheckAnswer → Verdict
 checkTold checks.Accepted = accepted
 checkTold (checks.Refused f) = faultTold f
@@ -40,11 +51,6 @@ CheckFits (checks.Refused f) = FaultFits f
 -- the fault of a number and a place
 abbrev pub faultOf : ℕ → ℕ → Fault
 faultOf n p = cond (ltb n 26) (fault.Volume n) (fault.Header n p)
-
--- ---- the other requests: 30 and 31 refuse a request, 21 to 29 an image
-abbrev pub faultAnswer : {A : Type 0} → Fault → Answer A
-faultAnswer (fault.Volume n) = refused n 0
-faultAnswer (fault.Header n p) = refused n p
 
 abbrev pub findTold : FindAnswer → Answer ℕ
 findTold (finds.Found p) = granted p
