@@ -21,7 +21,6 @@ use Rattle.tfs_proofs.specs.Changes.{changed, stays-consistent, name-on}
 use Rattle.tfs_proofs.specs.Formats.{format-refused, format-grants, format-consistent, format-empty, format-handles, format-past, format-length, format-head, format-map, format-directory}
 use Rattle.tfs_proofs.specs.Reads.{read-law, covers}
 use Rattle.tfs_proofs.specs.Grants.{stands-at, fresh-high, label-allowed, name-allowed, format-rule, rule-reply}
-use Rattle.tfs_proofs.specs.Answers.{format-numbered}
 use Rattle.tfs_proofs.specs.Replies.{told-done, told-broken, granted-or-refused, faulty, fault-reply, numbered, keeps, kept, ignored-reply, tail-kept-by, tail-unread-by}
 use Rattle.tfs_proofs.specs.Tail.{tail-kept, tail-unread}
 use Rattle.tfs_proofs.specs.IgnoredSteps.{same-after-all}
@@ -66,7 +65,6 @@ statements =
           };
       refusal-laws = λ B sz img. record {
         numbered = numbered B sz img;
-        format-numbered = λ label. format-numbered B img label (format B img label .answer) (format-rule B img label (format B img label .answer) .0 refl);
         keeps = keeps B img;
         format-keeps = format-refused B img;
         granted-or-refused = granted-or-refused;

@@ -2,7 +2,7 @@
 use mathlib.Core.Path.{_≡_, refl, sym, _∙_, ap, ap₂, subst}
 use mathlib.Core.Logic.{_≢_, _↔_}
 use mathlib.Core.Bool.{not}
-use Prim.Native.Nat.{ℕ}
+use Prim.Native.Nat.{ℕ, _≤_}
 use mathlib.Core.List.{List, []}
 use native.Mathlib.Omega.{arith}
 use lib.ListN.{length}
@@ -12,13 +12,13 @@ use Rattle.tfs_spec.specs.View.{view}
 use Rattle.tfs_spec.specs.Check.{Verdict, consistent, broken, check}
 use Rattle.tfs_spec.specs.Consistent.{Consistent, FirstBroken}
 use Rattle.tfs_spec.specs.Requests.{Answer, done, value, unused, file, refused, granted, Outcome, refuse, checked, checkAnswer, openAnswer, create, remove, read, write, listAnswer, freeAnswer, Change, creates, removes, writes, perform, Request, changes, checks, opens, reads, lists, counts, lent, reply}
-use Rattle.tfs_spec.specs.Answers.{Numbered, checkThen, ownNumbers, Rule}
+use Rattle.tfs_spec.specs.Answers.{Rule}
 use Rattle.tfs_spec.specs.Effects.{SameRead, Beyond, SameVolume, Kept}
 use Rattle.tfs_facts.specs.CheckMeans.{check-means, check-breaks}
 use Rattle.tfs_proofs.specs.Changes.{refused-keeps}
 use Rattle.tfs_proofs.specs.Reads.{read-refused}
 use Rattle.tfs_proofs.specs.Grants.{rule-reply}
-use Rattle.tfs_proofs.specs.Answers.{broken-numbered, find-numbered, create-numbered, transfer-numbered, list-numbered}
+use Rattle.tfs_proofs.specs.Answers.{Numbered, broken-numbered, find-numbered, create-numbered, transfer-numbered, list-numbered}
 use Rattle.tfs_proofs.specs.Kept.{create-kept, remove-kept, write-kept}
 use Rattle.tfs_proofs.specs.Ignored.{ignored}
 use Rattle.tfs_proofs.specs.Tail.{tail-kept, tail-unread}
@@ -62,24 +62,24 @@ fault-reply B sz img num p first (lists s) = rw (check-breaks B sz img num p .1 
 fault-reply B sz img num p first counts = rw (check-breaks B sz img num p .1 first)
 
 -- ---- the numbers of refusals
-rule-numbered : (B : ℕ) (img : List ℕ) (r : Request) (a : Answer) → Rule B (view B img) r a → Numbered (checkThen (ownNumbers r)) a
+rule-numbered : (B : ℕ) (img : List ℕ) (r : Request) (a : Answer) → Rule B (view B img) r a → Numbered a
 rule-numbered B img (changes (creates nm z)) a w = create-numbered B (view B img) nm z a w
 rule-numbered B img (changes (removes nm)) a w = find-numbered B (view B img) nm (λ s. done) (λ s. tt) a w
 rule-numbered B img (changes (writes h o bs)) a w = transfer-numbered B (view B img) h o (length bs) a w
-rule-numbered B img checks a w = subst (Numbered (checkThen [])) w tt
+rule-numbered B img checks a w = subst Numbered w tt
 rule-numbered B img (opens nm) a w = find-numbered B (view B img) nm _ (λ s. tt) a w
 rule-numbered B img (reads h o buf) a w = transfer-numbered B (view B img) h o (length buf) a w
 rule-numbered B img (lists s) a w = list-numbered B (view B img) s a w
-rule-numbered B img counts a w = subst (Numbered (checkThen [])) w tt
+rule-numbered B img counts a w = subst Numbered w tt
 
-pub numbered : (B : ℕ) → BlockSize B → (img : List ℕ) (r : Request) → Numbered (checkThen (ownNumbers r)) (reply B img r .answer)
-numbered B sz img r = go (check B img) refl
+pub numbered : (B : ℕ) → BlockSize B → (img : List ℕ) (r : Request) (num p : ℕ) → reply B img r .answer ≡ refused num p → (1 ≤ num) × (num ≤ 15) × (8 ≤ num → p ≡ 0)
+numbered B sz img r num p e = subst Numbered e (go (check B img) refl)
   where
-    go : (x : Verdict) → check B img ≡ x → Numbered (checkThen (ownNumbers r)) (reply B img r .answer)
+    go : (x : Verdict) → check B img ≡ x → Numbered (reply B img r .answer)
     go consistent e = rule-numbered B img r (reply B img r .answer) (rule-reply B sz img (check-means B sz img .0 e) r (reply B img r .answer) .0 refl)
     go (broken num p) e =
         let first : FirstBroken B img num p = check-breaks B sz img num p .0 e in
-        subst (Numbered (checkThen (ownNumbers r))) (sym (ap (λ x. x .answer) (fault-reply B sz img num p first r))) (broken-numbered B img (ownNumbers r) num p (first .here))
+        subst Numbered (sym (ap (λ x. x .answer) (fault-reply B sz img num p first r))) (broken-numbered B img num p (first .here))
 
 -- ---- a change leaves no buffer, a read the image
 fills-none : (x : Verdict) (img : List ℕ) (o : Outcome) → o .buffer ≡ [] → checked x (refuse img []) o .buffer ≡ []

@@ -25,34 +25,10 @@ pub record CheckLaws (B : ℕ) (img : List ℕ) : Type 0 where
   pub faulty : (Consistent B img → ⊥) → (num : ℕ) × (p : ℕ) × FirstBroken B img num p
   pub refused-by-all : (num p : ℕ) → FirstBroken B img num p → (r : Request) → reply B img r ≡ refuse img (lent r) num p
 
--- ---- refusals
--- a grant, or a refusal with one of the numbers; "Refusals 8 to 15 have place 0"
-abbrev pub Numbered : List ℕ → Answer → Type 0
-Numbered nums done = Unit {0}
-Numbered nums (value x) = Unit {0}
-Numbered nums unused = Unit {0}
-Numbered nums (file nm i z) = Unit {0}
-Numbered nums (refused num p) = In num nums × (8 ≤ num → p ≡ 0)
-
--- the check's numbers, and then the request's own
-abbrev pub checkThen : List ℕ → List ℕ
-checkThen own = 1 ∷ 2 ∷ 3 ∷ 4 ∷ 5 ∷ 6 ∷ 7 ∷ own
-
-abbrev pub ownNumbers : Request → List ℕ
-ownNumbers (changes (creates nm z)) = 8 ∷ 9 ∷ 10 ∷ 11 ∷ 12 ∷ []
-ownNumbers (changes (removes nm)) = 8 ∷ 13 ∷ []
-ownNumbers (changes (writes h o bs)) = 14 ∷ 15 ∷ []
-ownNumbers checks = []
-ownNumbers (opens nm) = 8 ∷ 13 ∷ []
-ownNumbers (reads h o buf) = 14 ∷ 15 ∷ []
-ownNumbers (lists s) = 14 ∷ []
-ownNumbers counts = []
-
--- of every image, consistent or not
+-- ---- refusals, of every image, consistent or not
 pub record RefusalLaws (B : ℕ) (img : List ℕ) : Type 0 where
-  -- "it ends with a result or one refusal from the numbered table"
-  pub numbered : (r : Request) → Numbered (checkThen (ownNumbers r)) (reply B img r .answer)
-  pub format-numbered : (label : List ℕ) → Numbered (1 ∷ 8 ∷ []) (format B img label .answer)
+  -- "it ends with a result or one refusal from the numbered table"; "Refusals 8 to 15 have place 0"; which numbers each request gives is in its table below
+  pub numbered : (r : Request) (num p : ℕ) → reply B img r .answer ≡ refused num p → (1 ≤ num) × (num ≤ 15) × (8 ≤ num → p ≡ 0)
   -- "A refused request changes no byte of the image or of any buffer"
   pub keeps : (r : Request) → T (not (granted (reply B img r .answer))) → (reply B img r .image ≡ img) × (reply B img r .buffer ≡ lent r)
   pub format-keeps : (label : List ℕ) → T (not (granted (format B img label .answer))) → format B img label .image ≡ img
