@@ -8,8 +8,7 @@ use lib.ListN.{length}
 use lib.Dec.{ltb, ltb→lt, lit<, lit≤}
 use Rattle.list_laws.specs.Test.{to-false}
 use Rattle.lists.specs.Lists.{least, sum, zeros, zeroAt, firstZero, upToZero, word, words, bitOf, withBit, part, withPart}
-use Rattle.tfs_spec.specs.Layout.{need, blocks, block, setBlock, mapBit, setBit, slot, setSlot, slotInode, slotName, slotFree, nameFormed, slotUsed, sameName, entry, inodeSize, inodeNumber, inodeBlock, labelAllowed, nameAllowed}
-use Rattle.tfs_spec.specs.View.{inodeAt, viewN, view, free, used, inode, name, size, number, slotOf, slotWith, freeSlot, freeBlocks}
+use Rattle.tfs_spec.specs.Layout.{need, blocks, block, setBlock, mapBit, setBit, slot, setSlot, slotInode, slotName, slotFree, nameFormed, slotUsed, sameName, entry, inodeSize, inodeNumber, inodeBlock, labelAllowed, nameAllowed, inodeAt, viewN, view, free, used, inode, name, size, number, slotOf, slotWith, freeSlot, freeBlocks}
 use Rattle.tfs_spec.specs.Check.{consistent, tooShort, badMagic, badLabel, repeats, badSlot, badNumber, badInode, fileClaims, claimsTo, claims, checkView, check}
 use Rattle.tfs_facts.specs.Stores.{Fits, length-storeAll}
 use Rattle.romfs_spec.specs.Layout.{fullSize, nameLength, nameEnds, afterName, firstRoot, fileType, executable, next, info, contentAt, endOf, own, isDots, descends, hasList, hasData, wordSum}

@@ -8,8 +8,7 @@ use lib.ListN.{length, take}
 use lib.Seq.{take-at, take-all}
 use borrow.Author.Tests.{lt-ltb, le-ltb}
 use Rattle.lists.specs.Lists.{zeros, padTo}
-use Rattle.tfs_spec.specs.Layout.{block, slot, slotFree, slotInode, slotName, inodeSize}
-use Rattle.tfs_spec.specs.View.{view, free, inode, name, size}
+use Rattle.tfs_spec.specs.Layout.{block, slot, slotFree, slotInode, slotName, inodeSize, view, free, inode, name, size}
 use Rattle.tfs_spec.specs.Check.{consistent, check}
 use Rattle.tfs_spec.specs.Consistent.{File}
 use Rattle.tfs_spec.specs.Requests.{refused, unused, file, listView}

@@ -7,8 +7,7 @@ use native.Mathlib.Omega.{arith}
 use lib.ListN.{length, getD, take, List·getD-append}
 use borrow.Author.Tests.{lt-ltb, le-ltb}
 use Rattle.list_laws.specs.Test.{of-true, to-true}
-use Rattle.tfs_spec.specs.Layout.{need, nameAllowed}
-use Rattle.tfs_spec.specs.View.{View, view, slotOf, freeSlot, freeBlocks}
+use Rattle.tfs_spec.specs.Layout.{need, nameAllowed, View, view, slotOf, freeSlot, freeBlocks}
 use Rattle.tfs_spec.specs.Check.{consistent, check}
 use Rattle.tfs_facts.specs.CheckMeans.{check-means, need-le}
 use Rattle.tfs_spec.specs.Requests.{Answer, value, granted, storeAll, freeFrom, chosen, placeStores, createStores, createView}

@@ -4,8 +4,7 @@ use mathlib.Core.Bool.{true, false}
 use Prim.Native.Nat.{ℕ, _≤_, _<_}
 use mathlib.Core.List.{List}
 use borrow.Author.Tests.{lt-ltb, le-ltb}
-use Rattle.tfs_spec.specs.Layout.{nameAllowed}
-use Rattle.tfs_spec.specs.View.{View, inode, slotOf}
+use Rattle.tfs_spec.specs.Layout.{nameAllowed, View, inode, slotOf}
 use Rattle.tfs_spec.specs.Requests.{value, refused, openView}
 
 module _ (v : View) (nm : List ℕ) where

@@ -6,8 +6,7 @@ use mathlib.Core.List.{List, _++_}
 use native.Mathlib.Omega.{arith}
 use lib.ListN.{length, take}
 use borrow.Author.Tests.{lt-ltb, le-ltb}
-use Rattle.tfs_spec.specs.Layout.{need, block, inodeSize, nameAllowed}
-use Rattle.tfs_spec.specs.View.{View, view, inode, slotOf}
+use Rattle.tfs_spec.specs.Layout.{need, block, inodeSize, nameAllowed, View, view, inode, slotOf}
 use Rattle.tfs_spec.specs.Check.{consistent, check, fileClaims}
 use Rattle.tfs_spec.specs.Consistent.{File}
 use Rattle.tfs_spec.specs.Requests.{Answer, done, granted, storeAll, removeStores, removeView}

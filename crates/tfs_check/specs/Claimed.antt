@@ -6,8 +6,7 @@ use native.Mathlib.Numerals.{add-one}
 use native.Mathlib.Omega.{arith}
 use mathlib.Core.List.{List, [], _∷_, _++_}
 use lib.ListN.{length}
-use Rattle.tfs_spec.specs.Layout.{blocks, block, setBits, need, inodeSize}
-use Rattle.tfs_spec.specs.View.{View, view, free, inode}
+use Rattle.tfs_spec.specs.Layout.{blocks, block, setBits, need, inodeSize, View, view, free, inode}
 use Rattle.tfs_spec.specs.Check.{fileClaims, claimsTo, claims}
 use Rattle.tfs_map.specs.Bits.{bits-append}
 use Rattle.tfs_inode.specs.Claims.{Within, claimList, file-claims, claims-within}

@@ -10,8 +10,7 @@ use borrow.Author.Tests.{eq-eqb, ne-eqb}
 use Rattle.list_laws.specs.Test.{of-true, no-false, and-l, and-r}
 use Rattle.lists.specs.Lists.{least}
 use Rattle.list_laws.specs.Least.{least-none}
-use Rattle.tfs_spec.specs.Layout.{blocks, block, slot, slotInode, slotUsed, inRange, nameFormed, nameField}
-use Rattle.tfs_spec.specs.View.{View, view, free, used, inode}
+use Rattle.tfs_spec.specs.Layout.{blocks, block, slot, slotInode, slotUsed, inRange, nameFormed, nameField, View, view, free, used, inode}
 use Rattle.tfs_spec.specs.Check.{repeats, badSlot, badInode, fileClaims}
 use Rattle.tfs_spec.specs.Consistent.{Inside}
 use Rattle.tfs_facts.specs.Sizes.{in-image}

@@ -6,8 +6,7 @@ use mathlib.Core.List.{List}
 use lib.ListN.{length, set}
 use lib.Dec.{ltb}
 use Rattle.lists.specs.Lists.{withBit, least, zeros}
-use Rattle.tfs_spec.specs.Layout.{blocks, setBit, setBits}
-use Rattle.tfs_spec.specs.View.{View, view, viewN}
+use Rattle.tfs_spec.specs.Layout.{blocks, setBit, setBits, View, view, viewN}
 use Rattle.tfs_spec.specs.Check.{Verdict, consistent, broken, found, tooShort, badMagic, badLabel, badSlot, badInode, claims, claimedTwice, badBit, checkView, check}
 use Rattle.tfs_dir.specs.Find.{slotBad, first-bad}
 use Rattle.tfs_facts.specs.Views.{view-n}

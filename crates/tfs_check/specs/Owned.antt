@@ -13,8 +13,7 @@ use Rattle.lists.specs.Lists.{zeros, least}
 use Rattle.list_laws.specs.Sum.{one-yes, one-no}
 use Rattle.list_laws.specs.Test.{of-true}
 use Rattle.list_laws.specs.Least.{least-all, least-more, least-cong}
-use Rattle.tfs_spec.specs.Layout.{mapByte, mapBit, setBit, setBits}
-use Rattle.tfs_spec.specs.View.{View}
+use Rattle.tfs_spec.specs.Layout.{mapByte, mapBit, setBit, setBits, View}
 use Rattle.tfs_spec.specs.Check.{times, claimedTwice, badBit}
 use Rattle.tfs_facts.specs.Claims.{times-append}
 use Rattle.tfs_facts.specs.MapBits.{in-map, length-setBit, length-setBits, bit-set, bit-kept}

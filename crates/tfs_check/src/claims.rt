@@ -2,8 +2,7 @@
 ghost use mathlib.Core.Path.{_≡_};
 ghost use Prim.Native.Nat.{_≤_, _<_};
 ghost use lib.ListN.{length};
-ghost use Rattle.tfs_spec.specs.Layout.{setBits, need, inodeSize};
-ghost use Rattle.tfs_spec.specs.View.{view};
+ghost use Rattle.tfs_spec.specs.Layout.{setBits, need, inodeSize, view};
 ghost use Rattle.tfs_spec.specs.Check.{fileClaims, claims};
 ghost use Rattle.tfs_map.specs.Under.{Under};
 ghost use Rattle.tfs_inode.specs.Claims.{claimList};

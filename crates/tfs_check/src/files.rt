@@ -2,8 +2,7 @@
 ghost use mathlib.Core.Path.{_≡_};
 ghost use Prim.Native.Nat.{_<_};
 ghost use Rattle.lists.specs.Lists.{least};
-ghost use Rattle.tfs_spec.specs.Layout.{blocks};
-ghost use Rattle.tfs_spec.specs.View.{view, free};
+ghost use Rattle.tfs_spec.specs.Layout.{blocks, view, free};
 ghost use Rattle.tfs_spec.specs.Check.{badInode};
 ghost use Rattle.tfs_check.specs.Files.{Formed};
 use tfs_dir::volume::inode_at;

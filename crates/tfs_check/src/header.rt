@@ -2,7 +2,7 @@
 ghost use mathlib.Core.Path.{_≡_};
 ghost use Prim.Native.Nat.{_≤_};
 ghost use lib.ListN.{length};
-ghost use Rattle.tfs_spec.specs.View.{view};
+ghost use Rattle.tfs_spec.specs.Layout.{view};
 ghost use Rattle.tfs_spec.specs.Check.{badMagic, badLabel};
 use spans::search::first_zero;
 use spans::words::be32;

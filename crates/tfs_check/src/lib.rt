@@ -5,7 +5,7 @@ mod claims; // claims.rt: the blocks that the files claim
 
 ghost use mathlib.Core.Path.{_≡_};
 ghost use Prim.Native.Nat.{_≤_};
-ghost use Rattle.tfs_spec.specs.View.{view};
+ghost use Rattle.tfs_spec.specs.Layout.{view};
 ghost use Rattle.tfs_spec.specs.Check.{check};
 ghost use Rattle.tfs_check.specs.Told.{verdictTold, VerdictFits};
 ghost use Rattle.tfs_check.specs.Files.{Sized};

@@ -5,8 +5,7 @@ use Prim.Native.Nat.{ℕ}
 use mathlib.Core.List.{List}
 use lib.Dec.{ltb, eqb}
 use Rattle.lists.specs.Lists.{least}
-use Rattle.tfs_spec.specs.Layout.{slot, slotInode, slotName, slotFree, slotUsed, sameName}
-use Rattle.tfs_spec.specs.View.{View, free, used, inode, name, slotOf, slotWith, freeSlot}
+use Rattle.tfs_spec.specs.Layout.{slot, slotInode, slotName, slotFree, slotUsed, sameName, View, free, used, inode, name, slotOf, slotWith, freeSlot}
 use Rattle.tfs_spec.specs.Check.{repeats, badSlot}
 
 -- whether slot s is taken, under this name or with this inode

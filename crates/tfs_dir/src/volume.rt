@@ -2,7 +2,7 @@
 ghost use mathlib.Core.Path.{_≡_};
 ghost use Prim.Native.Nat.{_<_, _≤_};
 ghost use lib.ListN.{length};
-ghost use Rattle.tfs_spec.specs.View.{view, inode, slotOf, slotWith, freeSlot};
+ghost use Rattle.tfs_spec.specs.Layout.{view, inode, slotOf, slotWith, freeSlot};
 use crate::find::find_free;
 use crate::find::find_handle;
 use crate::find::find_name;

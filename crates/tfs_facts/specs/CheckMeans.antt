@@ -15,12 +15,10 @@ use Rattle.lists.specs.Lists.{allZero, least, zeroAt, firstZero, upToZero, word
 use Rattle.list_laws.specs.Test.{zero-bytes, all-zero, by-test, cond-yes, cond-no, and-of, and-l, and-r, or-l, or-r, or-second, yes-yes, eqb-of, neqb-of, same-eq, same-refl}
 use Rattle.list_laws.specs.Least.{least-hit, least-below, least-none, least-is, least-all}
 use Rattle.list_laws.specs.Part.{length-part}
-use Rattle.tfs_spec.specs.Layout.{BlockSize, slots, numbers, maxSize, need, block, slot, slotInode, nameField, slotName, slotFree, nameFormed, slotUsed, magic, volumeName, inRange, mapBit, sameName}
-use Rattle.tfs_spec.specs.View.{View, viewN, view, free, used, inode, name, size, number}
+use Rattle.tfs_spec.specs.Layout.{BlockSize, slots, numbers, maxSize, need, block, slot, slotInode, nameField, slotName, slotFree, nameFormed, slotUsed, magic, volumeName, inRange, mapBit, sameName, View, viewN, view, free, used, inode, name, size, number}
 use Rattle.tfs_spec.specs.Check.{Verdict, consistent, broken, found, tooShort, badMagic, badLabel, repeats, badSlot, badNumber, badInode, claims, times, claimedTwice, badBit, checkView, check}
-use Rattle.tfs_spec.specs.Offsets.{numberAt}
+use Rattle.tfs_spec.specs.Consistent.{numberAt, File, Owner, inodeOf, contentOf, Owns, Owned, Inside, Sound, Consistent, WrongNumber, Broken, short, unmagical, unlabelled, malformed, repeated, oversized, misnumbered, twice, unmarked, stray, FirstBroken}
 use Rattle.tfs_facts.specs.Raw.{head-number, label-byte}
-use Rattle.tfs_spec.specs.Consistent.{File, Owner, inodeOf, contentOf, Owns, Owned, Inside, Sound, Consistent, WrongNumber, Broken, short, unmagical, unlabelled, malformed, repeated, oversized, misnumbered, twice, unmarked, stray, FirstBroken}
 use Rattle.tfs_facts.specs.Claims.{owned-claimed, claimed-owned, owners-twice, twice-owners}
 
 -- ---- a rule in the order of rules

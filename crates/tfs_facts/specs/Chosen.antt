@@ -8,8 +8,7 @@ use native.Mathlib.Decide.{decLt}
 use lib.ListN.{length, getD, length-take}
 use lib.Seq.{getD-take}
 use lib.Dec.{T}
-use Rattle.tfs_spec.specs.Layout.{slots, need, maxSize, nameAllowed}
-use Rattle.tfs_spec.specs.View.{View, slotOf, freeSlot, freeBlocks}
+use Rattle.tfs_spec.specs.Layout.{slots, need, maxSize, nameAllowed, View, slotOf, freeSlot, freeBlocks}
 use Rattle.tfs_spec.specs.Consistent.{Owned, Inside, Sound}
 use Rattle.tfs_facts.specs.Room.{free-count, FreeIn, free-member, free-rising}
 use Rattle.tfs_spec.specs.Requests.{freeFrom, chosen}

@@ -12,8 +12,7 @@ use Rattle.list_laws.specs.Test.{by-test, cond-yes, cond-no, eqb-of}
 use Rattle.lists.specs.Lists.{sum, count, table}
 use Rattle.list_laws.specs.Sum.{sum-one, sum-two, count-one, count-two, one-yes}
 use Rattle.list_laws.specs.Table.{table-more}
-use Rattle.tfs_spec.specs.Layout.{slots, need}
-use Rattle.tfs_spec.specs.View.{View, free, inode, size, number}
+use Rattle.tfs_spec.specs.Layout.{slots, need, View, free, inode, size, number}
 use Rattle.tfs_spec.specs.Check.{fileClaims, claimsTo, claims, times}
 use Rattle.tfs_spec.specs.Consistent.{File, Owner, inodeOf, contentOf, Owns, Owned}
 

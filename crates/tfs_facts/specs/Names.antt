@@ -13,8 +13,7 @@ use Rattle.list_laws.specs.Test.{same-eq, same-refl, cond-no, and-of, and-l, an
 use Rattle.list_laws.specs.Least.{least-hit, least-none, least-is}
 use Rattle.list_laws.specs.Table.{length-table, getD-table}
 use Rattle.list_laws.specs.Part.{length-with, part-with, part-with-other}
-use Rattle.tfs_spec.specs.Layout.{slots, need, slot, setSlot, sameName}
-use Rattle.tfs_spec.specs.View.{View, free, inode, name, size, number, slotOf, slotWith, freeSlot}
+use Rattle.tfs_spec.specs.Layout.{slots, need, slot, setSlot, sameName, View, free, inode, name, size, number, slotOf, slotWith, freeSlot}
 use Rattle.tfs_spec.specs.Check.{fileClaims}
 use Rattle.tfs_spec.specs.Consistent.{File, Owner, inodeOf, contentOf, Owns, Sound}
 use Rattle.tfs_facts.specs.Claims.{slotIn}

@@ -7,9 +7,8 @@ use lib.ListN.{getD}
 use Rattle.lists.specs.Lists.{word, part}
 use Rattle.list_laws.specs.Word.{word-cong}
 use Rattle.list_laws.specs.Part.{getD-part}
-use Rattle.tfs_spec.specs.Layout.{block, volumeName}
-use Rattle.tfs_spec.specs.View.{view, viewN}
-use Rattle.tfs_spec.specs.Offsets.{numberAt}
+use Rattle.tfs_spec.specs.Layout.{block, volumeName, view, viewN}
+use Rattle.tfs_spec.specs.Consistent.{numberAt}
 
 pub word-number : (l : List ℕ) (p : ℕ) → word l p ≡ numberAt l p
 unfolding word

@@ -9,8 +9,7 @@ use native.Mathlib.Decide.{ℕ-discrete}
 use lib.ListN.{length, getD}
 use Rattle.lists.specs.Lists.{sum, count}
 use Rattle.list_laws.specs.Sum.{sum-cong}
-use Rattle.tfs_spec.specs.Layout.{mapBit}
-use Rattle.tfs_spec.specs.View.{View, freeBlocks}
+use Rattle.tfs_spec.specs.Layout.{mapBit, View, freeBlocks}
 use Rattle.tfs_spec.specs.Requests.{freeFrom}
 
 -- ---- one block more: marked, or free

@@ -13,8 +13,7 @@ use Rattle.list_laws.specs.Test.{by-test, cond-yes, cond-no, yes-yes}
 use Rattle.lists.specs.Lists.{sum, table}
 use Rattle.list_laws.specs.Sum.{sum-cong, sum-zero, sum-ones, sum-add, sum-delta, one-yes}
 use Rattle.list_laws.specs.Table.{length-table}
-use Rattle.tfs_spec.specs.Layout.{BlockSize, slots, need, blocks, mapBit}
-use Rattle.tfs_spec.specs.View.{View, viewN, view, free, inode, size, number, freeBlocks}
+use Rattle.tfs_spec.specs.Layout.{BlockSize, slots, need, blocks, mapBit, View, viewN, view, free, inode, size, number, freeBlocks}
 use Rattle.tfs_spec.specs.Check.{fileClaims, claimsTo, claims, times}
 use Rattle.tfs_spec.specs.Consistent.{Inside, Sound, Consistent}
 use Rattle.tfs_spec.specs.Effects.{inodeCount, contentCount}

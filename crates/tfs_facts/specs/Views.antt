@@ -12,8 +12,7 @@ use Rattle.list_laws.specs.Test.{by-test, cond-yes, and-of}
 use Rattle.list_laws.specs.Table.{getD-table, getD-table-out}
 use Rattle.lists.specs.Lists.{word}
 use Rattle.list_laws.specs.Word.{zero-word}
-use Rattle.tfs_spec.specs.Layout.{slots, blocks, block, slot, slotInode, slotFree, inRange, inodeSize}
-use Rattle.tfs_spec.specs.View.{View, view, viewN, inodeAt, free, inode, size}
+use Rattle.tfs_spec.specs.Layout.{slots, blocks, block, slot, slotInode, slotFree, inRange, inodeSize, View, view, viewN, inodeAt, free, inode, size}
 use Rattle.tfs_spec.specs.Consistent.{File, Inside}
 use Rattle.tfs_facts.specs.Stores.{length-block}
 

@@ -9,8 +9,7 @@ use lib.ListN.{length, getD, drop, set}
 use lib.Seq.{drop-cons, drop-set-lt, append-snoc, set-at}
 use Rattle.lists.specs.Lists.{table}
 use Rattle.list_laws.specs.Table.{length-table, getD-table, table-more}
-use Rattle.tfs_spec.specs.Layout.{need, inodeSize, inodeNumber}
-use Rattle.tfs_spec.specs.View.{View, free, inode, size, number}
+use Rattle.tfs_spec.specs.Layout.{need, inodeSize, inodeNumber, View, free, inode, size, number}
 use Rattle.tfs_spec.specs.Check.{fileClaims}
 use Rattle.tfs_inode.specs.Wrong.{inodeWrong, right-number}
 

@@ -10,8 +10,7 @@ use borrow.Author.Tests.{lt-ltb, le-ltb, ltb-false}
 use Rattle.list_laws.specs.Test.{not-not, no-false, and-l, and-r, or-no-l, or-no-r}
 use Rattle.list_laws.specs.Least.{Below, least-hit, least-below, least-is, least-none}
 use Rattle.lists.specs.Lists.{least}
-use Rattle.tfs_spec.specs.Layout.{numbers, maxSize, need, inRange, inodeSize, inodeNumber}
-use Rattle.tfs_spec.specs.View.{View, free, size, number}
+use Rattle.tfs_spec.specs.Layout.{numbers, maxSize, need, inRange, inodeSize, inodeNumber, View, free, size, number}
 use Rattle.tfs_spec.specs.Check.{badNumber, badInode}
 
 -- one of the first numbers is outside 3..n−1, or a later one is not 0

@@ -2,8 +2,7 @@
 ghost use mathlib.Core.Path.{_≡_};
 ghost use Prim.Native.Nat.{_+_, _*_, _≤_};
 ghost use lib.ListN.{length};
-ghost use Rattle.tfs_spec.specs.Layout.{blocks, block};
-ghost use Rattle.tfs_spec.specs.View.{view};
+ghost use Rattle.tfs_spec.specs.Layout.{blocks, block, view};
 
 // The bytes of a block.
 pub const BLOCK: usize = 512;

@@ -8,8 +8,7 @@ use mathlib.Core.List.{List, _∷_}
 use lib.ListN.{length, getD, drop}
 use lib.Seq.{drop-cons}
 use Rattle.lists.specs.Lists.{sum, count}
-use Rattle.tfs_spec.specs.Layout.{mapBit}
-use Rattle.tfs_spec.specs.View.{View, freeBlocks}
+use Rattle.tfs_spec.specs.Layout.{mapBit, View, freeBlocks}
 use Rattle.tfs_facts.specs.Room.{free-below, free-member}
 use Rattle.tfs_spec.specs.Requests.{freeFrom}
 use Rattle.tfs_map.specs.Under.{Under}

@@ -3,7 +3,7 @@ ghost use mathlib.Core.Path.{_≡_};
 ghost use mathlib.Core.List.{_++_};
 ghost use Prim.Native.Nat.{_≤_};
 ghost use lib.ListN.{length, take, drop};
-ghost use Rattle.tfs_spec.specs.View.{view, freeBlocks};
+ghost use Rattle.tfs_spec.specs.Layout.{view, freeBlocks};
 ghost use Rattle.tfs_spec.specs.Requests.{freeFrom};
 use crate::room::free_count;
 use crate::room::pick;

@@ -3,7 +3,7 @@ use mathlib.Core.Path.{_≡_, refl}
 use mathlib.Core.List.{List}
 use Prim.Native.Nat.{ℕ, _≤_}
 use native.Mathlib.Omega.{arith}
-use Rattle.tfs_spec.specs.View.{View}
+use Rattle.tfs_spec.specs.Layout.{View}
 use Rattle.tfs_spec.specs.Consistent.{Broken, short, unmagical, unlabelled, malformed, repeated, oversized, misnumbered, twice, unmarked, stray}
 use Rattle.tfs_spec.specs.Requests.{Answer, done, value, unused, file, refused}
 use Rattle.tfs_spec.specs.Answers as rule

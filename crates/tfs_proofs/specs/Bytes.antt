@@ -8,11 +8,10 @@ use native.Mathlib.Nat.{mul-le-mul-right}
 use lib.ListN.{length, getD, set, take, drop, List·getD-eq-default}
 use Rattle.lists.specs.Lists.{table, zeros, padTo, bytes4, words, part, withPart, storeAt}
 use Rattle.list_laws.specs.Bits.{with-lt}
-use Rattle.tfs_spec.specs.Layout.{BlockSize, maxSize, blocks, block, setBlock, magic, setBit, setBits, setSlot, entry, inodeBlock}
-use Rattle.tfs_spec.specs.View.{View, view, size, slotOf, slotWith, freeSlot, place}
+use Rattle.tfs_spec.specs.Layout.{BlockSize, maxSize, blocks, block, setBlock, magic, setBit, setBits, setSlot, entry, inodeBlock, View, view, size, slotOf, slotWith, freeSlot, place}
 use Rattle.tfs_spec.specs.Check.{Verdict, consistent, broken, check, fileClaims}
 use Rattle.tfs_spec.specs.Requests.{Answer, counted, transferView, granted, refuse, checked, Store, storeAll, format, formatStores, zeroStores, placeStores, createStores, chosen, create, removeStores, remove, readBuffer, read, write}
-use Rattle.tfs_spec.specs.Offsets.{Bytes}
+use Rattle.tfs_spec.specs.Consistent.{Bytes}
 use Rattle.tfs_facts.specs.CheckMeans.{check-means}
 use Rattle.tfs_facts.specs.Views.{view-n, view-map, view-dir}
 use Rattle.tfs_facts.specs.Chosen.{CreateGrant, Choice, choice}

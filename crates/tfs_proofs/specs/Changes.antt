@@ -8,8 +8,7 @@ use lib.ListN.{length}
 use lib.Dec.{T, ltb, ltb→lt}
 use mathlib.Core.Option.{Option·map}
 use Rattle.list_laws.specs.Test.{not-not, to-true, by-test, cond-no}
-use Rattle.tfs_spec.specs.Layout.{BlockSize, slots}
-use Rattle.tfs_spec.specs.View.{View, view, name, slotOf, slotWith, contents}
+use Rattle.tfs_spec.specs.Layout.{BlockSize, slots, View, view, name, slotOf, slotWith, contents}
 use Rattle.tfs_spec.specs.Check.{Verdict, consistent, broken, check}
 use Rattle.tfs_spec.specs.Answers.{Handled}
 use Rattle.tfs_spec.specs.Consistent.{Consistent}

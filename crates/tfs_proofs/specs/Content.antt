@@ -11,8 +11,7 @@ use lib.Seq.{ext-getD, getD-take, getD-append-add}
 use lib.Dec.{ltb}
 use Rattle.lists.specs.Lists.{table, joined}
 use Rattle.list_laws.specs.Table.{length-table, getD-table, table-cong}
-use Rattle.tfs_spec.specs.Layout.{BlockSize, slots, need, block}
-use Rattle.tfs_spec.specs.View.{View, view, size, number, slotOf, place, content, contents}
+use Rattle.tfs_spec.specs.Layout.{BlockSize, slots, need, block, View, view, size, number, slotOf, place, content, contents}
 use Rattle.tfs_spec.specs.Consistent.{File, Consistent}
 use Rattle.tfs_facts.specs.Sizes.{in-need, in-block, in-image}
 use Rattle.tfs_facts.specs.Views.{view-n}

@@ -12,8 +12,7 @@ use Rattle.lists.specs.Lists.{zeros, allZero, table, part, withPart}
 use Rattle.list_laws.specs.Test.{zero-bytes, cond-no, yes-yes}
 use Rattle.list_laws.specs.Table.{table-cong, table-getD}
 use Rattle.list_laws.specs.Part.{length-part, with-with, with-same}
-use Rattle.tfs_spec.specs.Layout.{BlockSize, slots, block, slot, setSlot, setBits, mapBit, need, entry, slotFree, nameAllowed}
-use Rattle.tfs_spec.specs.View.{View, view, free, size, number, slotOf, freeSlot}
+use Rattle.tfs_spec.specs.Layout.{BlockSize, slots, block, slot, setSlot, setBits, mapBit, need, entry, slotFree, nameAllowed, View, view, free, size, number, slotOf, freeSlot}
 use Rattle.tfs_spec.specs.Check.{fileClaims}
 use Rattle.tfs_spec.specs.Consistent.{Consistent}
 use Rattle.tfs_facts.specs.CheckMeans.{check-means}

@@ -13,8 +13,7 @@ use lib.Dec.{T, ltb, ltb→lt, nltb→le, T-not}
 use Rattle.lists.specs.Lists.{zeros, table, In}
 use Rattle.list_laws.specs.Test.{by-test, cond-yes, cond-no, not-not}
 use Rattle.list_laws.specs.Table.{table-cong, table-same}
-use Rattle.tfs_spec.specs.Layout.{BlockSize, slots, block, setBlock, slot, setSlot, setBits, mapBit, sameName, slotFree, slotInode, slotName, slotUsed, need, maxSize, numbers, nameAllowed, entry, inodeBlock, inodeSize, inodeNumber}
-use Rattle.tfs_spec.specs.View.{View, view, free, used, inode, name, size, number, slotOf, freeSlot, freeBlocks, place, content, contents}
+use Rattle.tfs_spec.specs.Layout.{BlockSize, slots, block, setBlock, slot, setSlot, setBits, mapBit, sameName, slotFree, slotInode, slotName, slotUsed, need, maxSize, numbers, nameAllowed, entry, inodeBlock, inodeSize, inodeNumber, View, view, free, used, inode, name, size, number, slotOf, freeSlot, freeBlocks, place, content, contents}
 use Rattle.tfs_spec.specs.Consistent.{File, Owner, inodeOf, contentOf, Owns, Owned, Inside, Sound, Consistent}
 use Rattle.tfs_facts.specs.Claims.{slotIn, owns-file}
 use Rattle.tfs_facts.specs.CheckMeans.{owns-inside, same-sym, need-le, range-in}

@@ -14,8 +14,7 @@ use Rattle.list_laws.specs.Least.{least-all}
 use Rattle.lists.specs.Lists.{zeros, padTo, part, word, bytes4, withBit}
 use Rattle.list_laws.specs.Part.{getD-part}
 use Rattle.list_laws.specs.Word.{word-bytes4}
-use Rattle.tfs_spec.specs.Layout.{BlockSize, slots, block, magic, volumeName, mapBit, setBits, slot, slotFree, labelAllowed, sameName, setBit}
-use Rattle.tfs_spec.specs.View.{View, view, free, name, slotOf, contents}
+use Rattle.tfs_spec.specs.Layout.{BlockSize, slots, block, magic, volumeName, mapBit, setBits, slot, slotFree, labelAllowed, sameName, setBit, View, view, free, name, slotOf, contents}
 use Rattle.tfs_spec.specs.Check.{tooShort}
 use Rattle.tfs_spec.specs.Consistent.{File, Sound, Consistent}
 use Rattle.tfs_facts.specs.Claims.{slotIn, owns-file}

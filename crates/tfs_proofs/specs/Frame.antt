@@ -10,8 +10,7 @@ use lib.Dec.{T}
 use Rattle.list_laws.specs.Test.{by-test, cond-no}
 use Rattle.lists.specs.Lists.{table}
 use Rattle.list_laws.specs.Table.{table-cong}
-use Rattle.tfs_spec.specs.Layout.{slots, need, blocks, block, slot, slotInode, slotName, slotFree, slotUsed, inRange, inodeSize, inodeNumber}
-use Rattle.tfs_spec.specs.View.{View, view, inodeAt, free, used, inode, name, size, number, place, content}
+use Rattle.tfs_spec.specs.Layout.{slots, need, blocks, block, slot, slotInode, slotName, slotFree, slotUsed, inRange, inodeSize, inodeNumber, View, view, inodeAt, free, used, inode, name, size, number, place, content}
 use Rattle.tfs_spec.specs.Consistent.{File, Owner, inodeOf, contentOf, Owns, Inside}
 use Rattle.tfs_facts.specs.Claims.{slotIn}
 use Rattle.tfs_facts.specs.CheckMeans.{in-range}

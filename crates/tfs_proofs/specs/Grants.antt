@@ -14,8 +14,7 @@ use lib.Dec.{T, leb, ltb, leb→le, ltb→lt, nltb→le, le→leb, lt→ltb, eqb
 use Rattle.list_laws.specs.Test.{cond-yes, cond-no, and-of, and-l, and-r, not-not, yes-yes, no-false, to-true, eqb-of, neqb-of}
 use Rattle.lists.specs.Lists.{least, zeroAt, firstZero}
 use Rattle.list_laws.specs.Least.{least-hit, least-none, least-below, least-all}
-use Rattle.tfs_spec.specs.Layout.{BlockSize, slots, maxSize, need, mapBit, slot, nameField, labelAllowed, nameAllowed}
-use Rattle.tfs_spec.specs.View.{View, view, free, used, inode, name, size, slotOf, slotWith, freeSlot, freeBlocks}
+use Rattle.tfs_spec.specs.Layout.{BlockSize, slots, maxSize, need, mapBit, slot, nameField, labelAllowed, nameAllowed, View, view, free, used, inode, name, size, slotOf, slotWith, freeSlot, freeBlocks}
 use Rattle.tfs_spec.specs.Check.{consistent, check, tooShort}
 use Rattle.tfs_spec.specs.Consistent.{Sound, Consistent}
 use Rattle.tfs_facts.specs.Claims.{count-some}

@@ -7,8 +7,7 @@ use mathlib.Core.List.{List, [], _∷_}
 use native.Mathlib.Omega.{arith}
 use lib.Dec.{T, T-not}
 use Rattle.list_laws.specs.Test.{by-test}
-use Rattle.tfs_spec.specs.Layout.{BlockSize, slots}
-use Rattle.tfs_spec.specs.View.{View, view, free, inode, name, slotOf, slotWith, freeSlot}
+use Rattle.tfs_spec.specs.Layout.{BlockSize, slots, View, view, free, inode, name, slotOf, slotWith, freeSlot}
 use Rattle.tfs_spec.specs.Consistent.{Sound, Consistent}
 use Rattle.tfs_facts.specs.CheckMeans.{check-means}
 use Rattle.tfs_spec.specs.Requests.{Answer, value, granted, storeAll, createStores, create, removeStores, remove, write, Change, creates, removes, writes, perform, afterAll}
@@ -22,7 +21,7 @@ use Rattle.tfs_proofs.specs.Removes as removed
 use Rattle.tfs_proofs.specs.Changes.{Passed, create-granted, create-image, remove-granted, remove-image, refused-keeps, stays-consistent}
 use Rattle.tfs_proofs.specs.Handles.{Means, removed-none, created-none, created-handle}
 use Rattle.tfs_spec.specs.Answers.{CreateRule, unnamed, oversized, standing, full, cramped, created}
-use Rattle.tfs_spec.specs.Handles.{MeansFile, MeansNone, RemovesName, GivesHandle, NoneRemoves, NoneGives}
+use Rattle.tfs_spec.specs.Effects.{MeansFile, MeansNone, RemovesName, GivesHandle, NoneRemoves, NoneGives}
 use Rattle.tfs_proofs.specs.Grants.{stands-hit, stands-at, stands-removed, handled-hit, handled-at, handled-low, unhandled-high, create-answers}
 use Rattle.tfs_proofs.specs.Creates.{same-value}
 

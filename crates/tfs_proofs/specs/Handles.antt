@@ -9,8 +9,7 @@ use native.Mathlib.Decide.{decLt}
 use lib.ListN.{length, getD}
 use lib.Dec.{T, ltb, ltb→lt}
 use Rattle.list_laws.specs.Test.{not-not}
-use Rattle.tfs_spec.specs.Layout.{BlockSize, slots, maxSize, need, nameAllowed}
-use Rattle.tfs_spec.specs.View.{View, view, inode, slotOf, slotWith, freeSlot, freeBlocks}
+use Rattle.tfs_spec.specs.Layout.{BlockSize, slots, maxSize, need, nameAllowed, View, view, inode, slotOf, slotWith, freeSlot, freeBlocks}
 use Rattle.tfs_spec.specs.Consistent.{inodeOf, Consistent}
 use Rattle.tfs_facts.specs.CheckMeans.{check-means}
 use Rattle.tfs_spec.specs.Requests.{Answer, value, granted, Outcome, storeAll, openView, openAnswer, chosen, createView, createStores, create, removeStores, remove, transferView, read, write}

@@ -14,8 +14,7 @@ use Rattle.list_laws.specs.Sum.{sum-cong}
 use Rattle.list_laws.specs.Table.{table-cong}
 use Rattle.list_laws.specs.Word.{word-cong}
 use Rattle.list_laws.specs.Part.{getD-part, part-ext}
-use Rattle.tfs_spec.specs.Layout.{BlockSize, slots, numbers, maxSize, need, blocks, block, slot, slotInode, slotName, slotFree, slotUsed, inRange, sameName, mapBit, magic, volumeName, nameAllowed, inodeSize, inodeNumber}
-use Rattle.tfs_spec.specs.View.{View, view, viewN, inodeAt, free, used, inode, name, size, number, slotOf, slotWith, freeSlot, place, freeBlocks}
+use Rattle.tfs_spec.specs.Layout.{BlockSize, slots, numbers, maxSize, need, blocks, block, slot, slotInode, slotName, slotFree, slotUsed, inRange, sameName, mapBit, magic, volumeName, nameAllowed, inodeSize, inodeNumber, View, view, viewN, inodeAt, free, used, inode, name, size, number, slotOf, slotWith, freeSlot, place, freeBlocks}
 use Rattle.tfs_spec.specs.Check.{Verdict, consistent, broken, found, tooShort, badMagic, badLabel, repeats, badSlot, badNumber, badInode, fileClaims, claimsTo, claims, claimedTwice, badBit, checkView, check, times}
 use Rattle.tfs_spec.specs.Requests.{Answer, value, refused, unused, file, granted, checked, Outcome, readBuffer, openView, openAnswer, freeFrom, chosen, createView, create, removeView, remove, counted, transferView, read, write, listView, listAnswer, freeAnswer, refuse}
 use Rattle.tfs_facts.specs.Views.{view-n, view-head, view-map, view-dir}

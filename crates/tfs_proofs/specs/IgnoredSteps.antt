@@ -14,8 +14,7 @@ use lib.Dec.{T}
 use Rattle.list_laws.specs.Test.{by-test}
 use Rattle.lists.specs.Lists.{storeAt, part, In}
 use Rattle.list_laws.specs.Part.{part-ext}
-use Rattle.tfs_spec.specs.Layout.{BlockSize, slots, need, blocks, block, slot, mapBit}
-use Rattle.tfs_spec.specs.View.{View, view, size, slotOf, slotWith, freeSlot, place}
+use Rattle.tfs_spec.specs.Layout.{BlockSize, slots, need, blocks, block, slot, mapBit, View, view, size, slotOf, slotWith, freeSlot, place}
 use Rattle.tfs_spec.specs.Check.{check, consistent, fileClaims}
 use Rattle.tfs_spec.specs.Consistent.{File, Consistent}
 use Rattle.tfs_facts.specs.CheckMeans.{check-means}

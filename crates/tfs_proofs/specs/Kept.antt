@@ -9,8 +9,7 @@ use lib.Dec.{T}
 use Rattle.list_laws.specs.Test.{by-test}
 use Rattle.lists.specs.Lists.{zeros, words, In}
 use Rattle.list_laws.specs.Part.{getD-with-after}
-use Rattle.tfs_spec.specs.Layout.{BlockSize, slots, need, blocks, block, mapBit, setBits, setSlot, entry, inodeBlock}
-use Rattle.tfs_spec.specs.View.{View, view, slotOf, freeSlot, freeBlocks}
+use Rattle.tfs_spec.specs.Layout.{BlockSize, slots, need, blocks, block, mapBit, setBits, setSlot, entry, inodeBlock, View, view, slotOf, freeSlot, freeBlocks}
 use Rattle.tfs_spec.specs.Check.{Verdict, consistent, broken, check, fileClaims}
 use Rattle.tfs_spec.specs.Consistent.{File, Inside, Consistent}
 use Rattle.tfs_facts.specs.CheckMeans.{check-means, owns-inside}

@@ -5,8 +5,7 @@ use Prim.Native.Nat.{ℕ, _-_}
 use mathlib.Core.List.{List}
 use mathlib.Core.Option.{Option}
 use lib.Dec.{T}
-use Rattle.tfs_spec.specs.Layout.{sameName}
-use Rattle.tfs_spec.specs.View.{Contents}
+use Rattle.tfs_spec.specs.Layout.{sameName, Contents}
 use Rattle.tfs_spec.specs.Effects.{change}
 use Rattle.tfs_facts.specs.CheckMeans.{same-sym}
 use Rattle.tfs_facts.specs.Names.{name-trans}

@@ -8,7 +8,7 @@ use native.Mathlib.Nat.{mul-le-mul-right, le-div-iff-mul-le, div-mul-le-self, su
 use lib.ListN.{length, List·getD-eq-default}
 use Rattle.lists.specs.Lists.{bytes4}
 use Rattle.tfs_spec.specs.Layout.{BlockSize, need, blocks}
-use Rattle.tfs_spec.specs.Offsets.{numberAt, Bytes}
+use Rattle.tfs_spec.specs.Consistent.{numberAt, Bytes}
 use Rattle.tfs_proofs.specs.Content.{need-enough}
 
 module _ (B : ℕ) (sz : BlockSize B) where

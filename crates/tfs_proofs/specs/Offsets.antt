@@ -13,9 +13,8 @@ use Rattle.list_laws.specs.Test.{eqb-of}
 use Rattle.list_laws.specs.Bits.{bit-shift}
 use Rattle.list_laws.specs.Word.{word-cong}
 use Rattle.list_laws.specs.Part.{length-part, getD-part}
-use Rattle.tfs_spec.specs.Layout.{BlockSize, maxBlocks, slots, numbers, blocks, block, slot, slotInode, nameField, volumeName, mapBit, inodeSize, inodeNumber}
-use Rattle.tfs_spec.specs.View.{view, free, used, inode, name, size, number, place}
-use Rattle.tfs_spec.specs.Offsets.{numberAt, Bytes, slotAt, InVolume, NameAt, LayoutLaws}
+use Rattle.tfs_spec.specs.Layout.{BlockSize, maxBlocks, slots, numbers, blocks, block, slot, slotInode, nameField, volumeName, mapBit, inodeSize, inodeNumber, view, free, used, inode, name, size, number, place}
+use Rattle.tfs_spec.specs.Consistent.{numberAt, Bytes, slotAt, InVolume, NameAt, LayoutLaws}
 use Rattle.tfs_facts.specs.Raw.{word-number, part-number, head-number, label-byte}
 use Rattle.tfs_facts.specs.CheckMeans.{Named, free-means, used-means, name-means, length-field}
 use Rattle.tfs_facts.specs.MapWords.{map-bit-word}

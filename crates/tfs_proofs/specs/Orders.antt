@@ -5,8 +5,7 @@ use Prim.Native.Nat.{ℕ, _<_}
 use mathlib.Core.List.{List}
 use native.Mathlib.Omega.{arith}
 use lib.Dec.{T, T-not}
-use Rattle.tfs_spec.specs.Layout.{BlockSize, slots, sameName}
-use Rattle.tfs_spec.specs.View.{View, view, free, name, slotOf, slotWith, freeSlot, contents, Contents}
+use Rattle.tfs_spec.specs.Layout.{BlockSize, slots, sameName, View, view, free, name, slotOf, slotWith, freeSlot, contents, Contents}
 use Rattle.tfs_spec.specs.Check.{consistent}
 use Rattle.tfs_spec.specs.Consistent.{Sound, Consistent}
 use Rattle.tfs_facts.specs.CheckMeans.{check-means, same-sym}

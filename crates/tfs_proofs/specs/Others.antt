@@ -11,8 +11,7 @@ use lib.Dec.{T, ltb, lt→ltb}
 use lib.Arith.{le→nltb}
 use Rattle.list_laws.specs.Test.{cond-yes, cond-no}
 use Rattle.lists.specs.Lists.{word}
-use Rattle.tfs_spec.specs.Layout.{slots, block, sameName, need, maxSize, numbers, volumeName, BlockSize}
-use Rattle.tfs_spec.specs.View.{View, view, free, used, name, size, number, slotOf, content, contents}
+use Rattle.tfs_spec.specs.Layout.{slots, block, sameName, need, maxSize, numbers, volumeName, BlockSize, View, view, free, used, name, size, number, slotOf, content, contents}
 use Rattle.tfs_spec.specs.Consistent.{File, Inside, Sound, Consistent}
 use Rattle.tfs_facts.specs.Raw.{head-number, label-byte}
 use Rattle.tfs_facts.specs.Views.{view-head}

@@ -10,8 +10,7 @@ use Rattle.list_laws.specs.Test.{by-test, cond-no}
 use Rattle.lists.specs.Lists.{table}
 use Rattle.list_laws.specs.Table.{table-cong}
 use Rattle.list_laws.specs.Part.{part-ext}
-use Rattle.tfs_spec.specs.Layout.{slots, need, blocks, block, slot, slotInode, inRange}
-use Rattle.tfs_spec.specs.View.{View, view, viewN, inodeAt, free, inode, size, number, place}
+use Rattle.tfs_spec.specs.Layout.{slots, need, blocks, block, slot, slotInode, inRange, View, view, viewN, inodeAt, free, inode, size, number, place}
 use Rattle.tfs_spec.specs.Consistent.{File, inodeOf, contentOf, Owns, Inside, Sound}
 use Rattle.tfs_facts.specs.CheckMeans.{in-range}
 use Rattle.tfs_facts.specs.Sizes.{split-block, split-offset, rejoin, in-need, in-block, in-image}

@@ -1,10 +1,9 @@
 -- The statements of tfs_spec, each proved under its own name.
-use Rattle.tfs_spec.specs.Statements.{Statements}
+use Rattle.tfs_spec.specs.Laws.{Statements}
 use mathlib.Core.Path.{refl, sym, _∙_, subst}
 use native.Mathlib.Omega.{arith}
 use lib.Dec.{T}
-use Rattle.tfs_spec.specs.Layout.{labelAllowed}
-use Rattle.tfs_spec.specs.View.{view}
+use Rattle.tfs_spec.specs.Layout.{labelAllowed, view}
 use Rattle.tfs_spec.specs.Check.{check}
 use Rattle.tfs_spec.specs.Requests.{Answer, granted, format, checkAnswer, writes, perform, reads, changes}
 use Rattle.tfs_spec.specs.Answers.{unhandled}

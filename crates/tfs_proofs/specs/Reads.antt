@@ -10,8 +10,7 @@ use lib.ListN.{length, getD, take, drop}
 use lib.Dec.{T, ltb, ltb→lt, nltb→le, lt→ltb, eqb→eq, eqb, leb→le, leb, le→leb}
 use Rattle.list_laws.specs.Test.{cond-no, not-not, and-of, and-l, and-r, eqb-of}
 use Rattle.lists.specs.Lists.{table}
-use Rattle.tfs_spec.specs.Layout.{slots, BlockSize}
-use Rattle.tfs_spec.specs.View.{View, view, inode, size, slotWith, place, content}
+use Rattle.tfs_spec.specs.Layout.{slots, BlockSize, View, view, inode, size, slotWith, place, content}
 use Rattle.tfs_spec.specs.Check.{Verdict, consistent, broken, check}
 use Rattle.tfs_spec.specs.Consistent.{File, Consistent}
 use Rattle.tfs_spec.specs.Answers.{Handled}

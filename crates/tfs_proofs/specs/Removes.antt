@@ -11,8 +11,7 @@ use lib.ListN.{length}
 use lib.Dec.{T, T-not}
 use Rattle.lists.specs.Lists.{zeros, allZero, In}
 use Rattle.list_laws.specs.Test.{by-test, cond-yes, cond-no}
-use Rattle.tfs_spec.specs.Layout.{BlockSize, slots, block, setBlock, slot, setSlot, setBits, mapBit, mapByte, sameName, slotFree}
-use Rattle.tfs_spec.specs.View.{View, view, free, name, slotOf, contents}
+use Rattle.tfs_spec.specs.Layout.{BlockSize, slots, block, setBlock, slot, setSlot, setBits, mapBit, mapByte, sameName, slotFree, View, view, free, name, slotOf, contents}
 use Rattle.tfs_spec.specs.Check.{fileClaims}
 use Rattle.tfs_spec.specs.Consistent.{File, Owner, Owns, Owned, Inside, Sound, Consistent}
 use Rattle.tfs_facts.specs.Claims.{slotIn, owns-file}

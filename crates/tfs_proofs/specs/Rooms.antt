@@ -8,8 +8,7 @@ use native.Mathlib.Omega.{arith}
 use lib.Dec.{T}
 use Rattle.list_laws.specs.Test.{by-test, cond-yes, cond-no}
 use Rattle.list_laws.specs.Sum.{sum-drop}
-use Rattle.tfs_spec.specs.Layout.{BlockSize, slots, need}
-use Rattle.tfs_spec.specs.View.{View, view, free, size, slotOf, freeSlot, freeBlocks}
+use Rattle.tfs_spec.specs.Layout.{BlockSize, slots, need, View, view, free, size, slotOf, freeSlot, freeBlocks}
 use Rattle.tfs_spec.specs.Consistent.{File, Consistent}
 use Rattle.tfs_facts.specs.CheckMeans.{check-means}
 use Rattle.tfs_spec.specs.Effects.{inodeCount, contentCount}

@@ -13,8 +13,7 @@ use Rattle.lists.specs.Lists.{table, storeAt, withPart}
 use Rattle.list_laws.specs.Table.{table-cong}
 use Rattle.list_laws.specs.Store.{length-store}
 use Rattle.list_laws.specs.Part.{getD-part, getD-with-in, getD-with-before, getD-with-after}
-use Rattle.tfs_spec.specs.Layout.{BlockSize, slots, blocks, block, setBlock, slot, slotInode, inRange, labelAllowed}
-use Rattle.tfs_spec.specs.View.{View, view, viewN, inodeAt, size as fileSize, number, slotWith, place, freeBlocks}
+use Rattle.tfs_spec.specs.Layout.{BlockSize, slots, blocks, block, setBlock, slot, slotInode, inRange, labelAllowed, View, view, viewN, inodeAt, size as fileSize, number, slotWith, place, freeBlocks}
 use Rattle.tfs_spec.specs.Check.{Verdict, consistent, broken, check, checkView, tooShort}
 use Rattle.tfs_spec.specs.Consistent.{Sound}
 use Rattle.tfs_facts.specs.CheckMeans.{check-means}

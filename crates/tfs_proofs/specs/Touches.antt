@@ -14,8 +14,7 @@ use Rattle.list_laws.specs.Test.{to-true}
 use Rattle.list_laws.specs.Least.{least-below}
 use Rattle.lists.specs.Lists.{zeros, In}
 use Rattle.list_laws.specs.Part.{getD-with-in, getD-with-before, getD-with-after}
-use Rattle.tfs_spec.specs.Layout.{BlockSize, slots, need, block, mapBit, slot, setSlot, entry, inodeSize, inodeNumber, inodeBlock}
-use Rattle.tfs_spec.specs.View.{View, view, free, inode, size, slotOf, freeSlot}
+use Rattle.tfs_spec.specs.Layout.{BlockSize, slots, need, block, mapBit, slot, setSlot, entry, inodeSize, inodeNumber, inodeBlock, View, view, free, inode, size, slotOf, freeSlot}
 use Rattle.tfs_spec.specs.Check.{fileClaims}
 use Rattle.tfs_spec.specs.Consistent.{File, Owner, inodeOf, contentOf, Owns, Consistent}
 use Rattle.tfs_facts.specs.Claims.{slotIn}

@@ -10,8 +10,7 @@ use lib.ListN.{length, getD, length-take}
 use lib.Dec.{T, leb, ltb, eqb, leb→le, ltb→lt, le→leb, lt→ltb, T-not}
 use Rattle.list_laws.specs.Test.{by-test, cond-yes, cond-no, iff-eq, and-of, and-l, and-r, no-and, neqb-of}
 use Rattle.list_laws.specs.Table.{table-cong}
-use Rattle.tfs_spec.specs.Layout.{slots, sameName}
-use Rattle.tfs_spec.specs.View.{View, view, name, size, slotOf, place, content, contents}
+use Rattle.tfs_spec.specs.Layout.{slots, sameName, View, view, name, size, slotOf, place, content, contents}
 use Rattle.tfs_spec.specs.Consistent.{File, Sound}
 use Rattle.tfs_facts.specs.CheckMeans.{same-sym}
 use Rattle.tfs_proofs.specs.Content.{standing, contents-at, contents-in, standing-map, content-by}

@@ -11,9 +11,8 @@ use lib.Dec.{leb, ltb, eqb, ltb→lt, nltb→le}
 use Rattle.list_laws.specs.Test.{by-test, cond-yes, cond-no, yes-yes}
 use Rattle.list_laws.specs.Least.{least-le}
 use Rattle.lists.specs.Lists.{storeAt, table, joined}
-use Rattle.tfs_spec.specs.Layout.{slots, inodeSize}
+use Rattle.tfs_spec.specs.Layout.{slots, inodeSize, View, view, free, inode, size, slotWith, slotOf, place}
 use mathlib.Core.Option.{Option·map}
-use Rattle.tfs_spec.specs.View.{View, view, free, inode, size, slotWith, slotOf, place}
 use Rattle.tfs_spec.specs.Check.{consistent, broken, check, checkView, tooShort}
 use Rattle.tfs_spec.specs.Consistent.{Sound}
 use Rattle.tfs_spec.specs.Requests.{Answer, value, refused, granted, counted, transferView, writeImage, write}

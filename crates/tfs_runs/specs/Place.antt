@@ -4,7 +4,7 @@ use Prim.Native.Nat.{ℕ, _+_, _-_, _*_, _/_, _%_, _≤_, _<_, min}
 use mathlib.Core.List.{List}
 use native.Mathlib.Omega.{arith}
 use lib.ListN.{length, getD}
-use Rattle.tfs_spec.specs.View.{View, number, place}
+use Rattle.tfs_spec.specs.Layout.{View, number, place}
 
 -- the place of position p
 unfoldable pub at : List ℕ → ℕ → ℕ

@@ -7,8 +7,7 @@ use mathlib.Core.List.{List, [], _∷_}
 use lib.ListN.{length, getD}
 use lib.Dec.{T}
 use Rattle.lists.specs.Lists.{In}
-use Rattle.tfs_spec.specs.Layout.{slots, maxSize, need, mapBit, labelAllowed, nameAllowed}
-use Rattle.tfs_spec.specs.View.{View, view, free, inode, name, size, freeBlocks}
+use Rattle.tfs_spec.specs.Layout.{slots, maxSize, need, mapBit, labelAllowed, nameAllowed, View, view, free, inode, name, size, freeBlocks}
 use Rattle.tfs_spec.specs.Check.{consistent, broken, check}
 use Rattle.tfs_spec.specs.Consistent.{File, Consistent, FirstBroken}
 use Rattle.tfs_spec.specs.Requests.{Answer, done, value, unused, file, refused, granted, refuse, format, checkAnswer, creates, removes, writes, Request, changes, checks, opens, reads, lists, counts, lent, reply}

@@ -2,18 +2,17 @@
 use mathlib.Core.Path.{_≡_}
 use mathlib.Core.Logic.{_≢_, _↔_}
 use mathlib.Core.Bool.{Bool, cond, _&&_}
-use Prim.Native.Nat.{ℕ, _+_, _-_, _≤_, _<_}
+use Prim.Native.Nat.{ℕ, _+_, _-_, _≤_, _<_, _*_}
 use mathlib.Core.List.{List, [], _∷_, map}
 use mathlib.Core.Option.{Option·map}
 use lib.ListN.{length, getD}
 use lib.Dec.{T, leb, ltb, eqb}
 use Rattle.lists.specs.Lists.{table, joined}
-use Rattle.tfs_spec.specs.Layout.{block, sameName}
-use Rattle.tfs_spec.specs.View.{view, size, slotOf, slotWith, place, contents}
-use Rattle.tfs_spec.specs.Consistent.{File}
-use Rattle.tfs_spec.specs.Requests.{Answer, done, value, unused, file, refused, granted, Outcome, create, remove, write, Change, perform}
-use Rattle.tfs_spec.specs.Answers.{Handled}
-use Rattle.tfs_spec.specs.Effects.{nameOn}
+use Rattle.tfs_spec.specs.Layout.{block, sameName, view, size, slotOf, slotWith, place, contents, BlockSize}
+use Rattle.tfs_spec.specs.Consistent.{File, Consistent, Bytes, LayoutLaws, NameLaws, NumberLaws}
+use Rattle.tfs_spec.specs.Requests.{Answer, done, value, unused, file, refused, granted, Outcome, create, remove, write, Change, perform, read}
+use Rattle.tfs_spec.specs.Answers.{Handled, CheckLaws, RefusalLaws, LabelRule, GrantLaws}
+use Rattle.tfs_spec.specs.Effects.{nameOn, ContentLaws, ChangeLaws, TouchLaws, FormatLaws, ReadLaws, KeptLaws, ByteLaws, RoomLaws, HandleLaws}
 
 pub record Write : Type 0 where
   pub handle : ℕ
@@ -103,3 +102,25 @@ pub record RequestLaws (B : ℕ) (img : List ℕ) : Type 0 where
   pub back : (nm : List ℕ) (z : ℕ) → T (granted (create B img nm z .answer)) → BackLaw B img nm z
   -- 4. "Two requests out of create, remove and write, on different names and granted in both orders, end with the same names, sizes and contents in either order"
   pub orders : (a b : Change) → (T (sameName (nameOn B (view B img) a) (nameOn B (view B img) b)) → ⊥) → BothOrders B img a b → (nm : List ℕ) → contents B (perform B (perform B img a .image) b .image) nm ≡ contents B (perform B (perform B img b .image) a .image) nm
+
+-- ---- all statements, each with its premises; tfs_proofs/specs/Proved.antt proves each
+pub record Statements : Type 0 where
+  -- of every image
+  pub number-laws : NumberLaws
+  pub name-laws : NameLaws
+  pub check-laws : (B : ℕ) → BlockSize B → (img : List ℕ) → CheckLaws B img
+  pub refusal-laws : (B : ℕ) → BlockSize B → (img : List ℕ) → RefusalLaws B img
+  pub grant-laws : (B : ℕ) → BlockSize B → (img : List ℕ) → GrantLaws B img
+  pub read-laws : (B : ℕ) (img : List ℕ) (h o : ℕ) (buf : List ℕ) (c : ℕ) → read B img h o buf .answer ≡ value c → ReadLaws B img h o buf c
+  pub kept-laws : (B : ℕ) → BlockSize B → (img : List ℕ) → KeptLaws B img
+  -- of images of three blocks or more, of images of bytes
+  pub layout-laws : (B : ℕ) → BlockSize B → (img : List ℕ) → 3 * B ≤ length img → LayoutLaws B img
+  pub format-laws : (B : ℕ) → BlockSize B → (img label : List ℕ) → 3 * B ≤ length img → LabelRule label → FormatLaws B img label
+  pub byte-laws : (B : ℕ) → BlockSize B → B ≤ 65536 → (img : List ℕ) → Bytes img → ByteLaws B img
+  -- of consistent volumes
+  pub content-laws : (B : ℕ) → BlockSize B → (img : List ℕ) → Consistent B img → ContentLaws B img
+  pub change-laws : (B : ℕ) → BlockSize B → (img : List ℕ) → Consistent B img → ChangeLaws B img
+  pub touch-laws : (B : ℕ) → BlockSize B → (img : List ℕ) → Consistent B img → TouchLaws B img
+  pub room-laws : (B : ℕ) → BlockSize B → (img : List ℕ) → Consistent B img → RoomLaws B img
+  pub handle-laws : (B : ℕ) → BlockSize B → (img : List ℕ) → Consistent B img → HandleLaws B img
+  pub request-laws : (B : ℕ) → BlockSize B → (img : List ℕ) → Consistent B img → RequestLaws B img

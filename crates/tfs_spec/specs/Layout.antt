@@ -1,11 +1,12 @@
 -- The TFS layout, over the block size B: 512 in all requests.
 use mathlib.Core.Path.{_≡_}
-use mathlib.Core.Bool.{Bool, _&&_}
+use mathlib.Core.Bool.{Bool, _&&_, not, cond}
 use Prim.Native.Nat.{ℕ, _+_, _-_, _*_, _/_, _%_, _≤_, min}
 use mathlib.Core.List.{List, [], _∷_, _++_}
+use mathlib.Core.Option.{Option, none, some}
 use lib.ListN.{length, getD, drop, set}
 use lib.Dec.{leb, ltb, eqb}
-use Rattle.lists.specs.Lists.{sameList, allZero, firstZero, upToZero, padTo, word, bytes4, words, bitOf, withBit, part, withPart}
+use Rattle.lists.specs.Lists.{sameList, allZero, firstZero, upToZero, padTo, word, bytes4, words, bitOf, withBit, part, withPart, least, count, table}
 
 -- block sizes of the statements: 512 or larger, and whole 32-bit words
 pub record BlockSize (B : ℕ) : Type 0 where
@@ -39,7 +40,6 @@ blocks B img = min (maxBlocks B) (length img / B)
 -- "Each block is handed on as a part of the image"
 unfoldable pub block : ℕ → List ℕ → ℕ → List ℕ
 block B img b = part (b * B) B img
-
 unfoldable pub setBlock : ℕ → List ℕ → ℕ → List ℕ → List ℕ
 setBlock B img b bs = withPart (b * B) B bs img
 
@@ -47,20 +47,18 @@ setBlock B img b bs = withPart (b * B) B bs img
 -- "magic 3745 in bytes 0..3; volume name in bytes 4..19"
 abbrev pub magic : ℕ
 magic = 3745
-
 abbrev pub volumeName : List ℕ → List ℕ
 volumeName head = part 4 16 head
 
 -- ---- block 1, the map
 -- "block b is bit (b mod 32), counted from the least significant, of 32-bit word (b div 32)":
--- big-endian, so bit (b mod 8) of this byte (LayoutLaws.map-bit in Offsets.antt says it in words)
+-- big-endian, so bit (b mod 8) of this byte (LayoutLaws.map-bit in Consistent.antt says it in words)
 abbrev pub mapByte : ℕ → ℕ
 mapByte b = 4 * (b / 32) + (3 - b % 32 / 8)
 
 -- "1 is reserved"
 unfoldable pub mapBit : List ℕ → ℕ → Bool
 mapBit map b = eqb (bitOf (getD map (mapByte b) 0) (b % 8)) 1
-
 unfoldable pub setBit : List ℕ → ℕ → ℕ → List ℕ
 setBit map b v = set map (mapByte b) (withBit (getD map (mapByte b) 0) (b % 8) v)
 
@@ -73,17 +71,14 @@ setBits map v (b ∷ bs) = setBits (setBit map b v) v bs
 -- "slots of 20 bytes: inode number (4), name (16, zero-ended)"
 unfoldable pub slot : List ℕ → ℕ → List ℕ
 slot dir s = part (s * 20) 20 dir
-
 unfoldable pub setSlot : List ℕ → ℕ → List ℕ → List ℕ
 setSlot dir s e = withPart (s * 20) 20 e dir
 
 -- of the 20 bytes e of a slot
 unfoldable pub slotInode : List ℕ → ℕ
 slotInode e = word e 0
-
 abbrev pub nameField : List ℕ → List ℕ
 nameField e = part 4 16 e
-
 unfoldable pub slotName : List ℕ → List ℕ
 slotName e = upToZero (nameField e)
 
@@ -115,7 +110,6 @@ entry inode name = bytes4 inode ++ padTo 16 name
 -- "size (4), then 127 block numbers"
 unfoldable pub inodeSize : List ℕ → ℕ
 inodeSize ino = word ino 0
-
 unfoldable pub inodeNumber : List ℕ → ℕ → ℕ
 inodeNumber ino k = word ino (4 + 4 * k)
 
@@ -131,3 +125,74 @@ labelAllowed name = ltb (length name) 16 && eqb (firstZero name) (length name)
 -- and not empty
 unfoldable pub nameAllowed : List ℕ → Bool
 nameAllowed name = leb 1 (length name) && labelAllowed name
+
+-- ---- a view: what a volume says outside its content
+-- The check beyond rule 1 (the image's length), every answer after the check and the place of every byte are functions of it.
+pub record View : Type 0 where
+  -- N
+  pub n : ℕ
+  -- blocks 0, 1 and 2
+  pub head : List ℕ
+  pub map : List ℕ
+  pub dir : List ℕ
+  -- of each slot the block of its inode; [] where the slot's inode number is not in 3..N−1
+  pub inodes : List (List ℕ)
+
+unfoldable pub inodeAt : ℕ → ℕ → List ℕ → ℕ → List ℕ
+inodeAt B n img s =
+    let i : ℕ = slotInode (slot (block B img 2) s) in
+    let ino : List ℕ = block B img i in
+    cond (inRange n i) ino []
+
+-- the view of an image as a volume of n blocks
+unfoldable pub viewN : ℕ → ℕ → List ℕ → View
+viewN B n img =
+    record { n = n; head = block B img 0; map = block B img 1; dir = block B img 2; inodes = table (inodeAt B n img) 0 (slots B) }
+
+unfoldable pub view : ℕ → List ℕ → View
+view B img = viewN B (blocks B img) img
+
+-- ---- of slot s
+unfoldable pub free : View → ℕ → Bool
+free v s = slotFree (slot (v .dir) s)
+unfoldable pub used : View → ℕ → Bool
+used v s = slotUsed (v .n) (slot (v .dir) s)
+unfoldable pub inode : View → ℕ → ℕ
+inode v s = slotInode (slot (v .dir) s)
+unfoldable pub name : View → ℕ → List ℕ
+name v s = slotName (slot (v .dir) s)
+unfoldable pub size : View → ℕ → ℕ
+size v s = inodeSize (getD (v .inodes) s [])
+unfoldable pub number : View → ℕ → ℕ → ℕ
+number v s k = inodeNumber (getD (v .inodes) s []) k
+
+-- the slot of a name, of a handle, and the lowest free slot; the number of slots where there is none
+unfoldable pub slotOf : ℕ → View → List ℕ → ℕ
+slotOf B v nm = least (λ s. not (free v s) && sameName (name v s) nm) (slots B)
+unfoldable pub slotWith : ℕ → View → ℕ → ℕ
+slotWith B v h = least (λ s. not (free v s) && eqb (inode v s) h) (slots B)
+unfoldable pub freeSlot : ℕ → View → ℕ
+freeSlot B v = least (free v) (slots B)
+
+-- ---- content
+-- "Content runs through the listed blocks in order": where position p of the file in slot s lies
+unfoldable pub place : ℕ → View → ℕ → ℕ → ℕ
+place B v s p = number v s (p / B) * B + p % B
+
+-- "A file's content is the first size bytes of its listed blocks in order"
+unfoldable pub content : ℕ → View → List ℕ → ℕ → List ℕ
+content B v img s = table (λ p. getD img (place B v s p) 0) 0 (size v s)
+
+-- the plain view of a volume: the content that stands under each name
+abbrev pub Contents : Type 0
+Contents = List ℕ → Option (List ℕ)
+
+unfoldable pub contents : ℕ → List ℕ → Contents
+contents B img nm =
+    let s : ℕ = slotOf B (view B img) nm in
+    cond (ltb s (slots B)) (some (content B (view B img) img s)) none
+
+-- ---- room
+-- "zero bits below N"
+unfoldable pub freeBlocks : View → ℕ
+freeBlocks v = count (λ b. not (mapBit (v .map) b)) (v .n)

@@ -1,11 +1,7 @@
 pub mod Layout
-pub mod View
 pub mod Check
 pub mod Requests
-pub mod Offsets
 pub mod Consistent
 pub mod Answers
 pub mod Effects
-pub mod Handles
 pub mod Laws
-pub mod Statements

@@ -5,8 +5,7 @@ use mathlib.Core.List.{List, [], _∷_}
 use lib.ListN.{length}
 use native.Mathlib.Omega.{arith}
 use Rattle.lists.specs.Lists.{zeros}
-use Rattle.tfs_spec.specs.Layout.{slots, block, setBlock, setBits, setSlot}
-use Rattle.tfs_spec.specs.View.{view, slotOf}
+use Rattle.tfs_spec.specs.Layout.{slots, block, setBlock, setBits, setSlot, view, slotOf}
 use Rattle.tfs_spec.specs.Check.{fileClaims}
 use Rattle.tfs_spec.specs.Requests.{Store, store, storeAll, removeStores}
 use Rattle.tfs_facts.specs.Views.{view-map, view-dir}

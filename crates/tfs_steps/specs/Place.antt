@@ -5,8 +5,7 @@ use mathlib.Core.List.{List, [], _∷_}
 use lib.ListN.{length, getD, take, drop}
 use lib.Seq.{take-all}
 use native.Mathlib.Omega.{arith}
-use Rattle.tfs_spec.specs.Layout.{blocks, block, setBlock, setBits, setSlot, entry, inodeBlock}
-use Rattle.tfs_spec.specs.View.{view}
+use Rattle.tfs_spec.specs.Layout.{blocks, block, setBlock, setBits, setSlot, entry, inodeBlock, view}
 use Rattle.tfs_spec.specs.Requests.{storeAll, zeroStores, placeStores}
 use Rattle.tfs_facts.specs.Stores.{Fits, length-block, length-setBlock, block-other, length-storeAll, stored-away, storeAll-append, zero-fits, zero-away}
 use Rattle.tfs_facts.specs.MapBits.{length-setBits}

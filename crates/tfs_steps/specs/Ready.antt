@@ -11,8 +11,7 @@ use lib.Seq.{take-at}
 use Rattle.list_laws.specs.Test.{cond-no}
 use Rattle.lists.specs.Lists.{table, storeAt}
 use Rattle.list_laws.specs.Table.{length-table, getD-table, table-cong}
-use Rattle.tfs_spec.specs.Layout.{need, blocks, block, inodeSize, inodeNumber}
-use Rattle.tfs_spec.specs.View.{View, view, free, inode, size, number, place}
+use Rattle.tfs_spec.specs.Layout.{need, blocks, block, inodeSize, inodeNumber, View, view, free, inode, size, number, place}
 use Rattle.tfs_spec.specs.Check.{consistent, check, fileClaims}
 use Rattle.tfs_spec.specs.Consistent.{File, Consistent}
 use Rattle.tfs_spec.specs.Consistent as rules

@@ -2,8 +2,7 @@
 ghost use mathlib.Core.Path.{_≡_};
 ghost use Prim.Native.Nat.{_+_, _*_, _≤_, _<_};
 ghost use lib.ListN.{length};
-ghost use Rattle.tfs_spec.specs.Layout.{setBlock, inodeBlock};
-ghost use Rattle.tfs_spec.specs.View.{view};
+ghost use Rattle.tfs_spec.specs.Layout.{setBlock, inodeBlock, view};
 ghost use Rattle.tfs_spec.specs.Requests.{storeAll, placeStores};
 ghost use Rattle.tfs_steps.specs.Place.{Placeable};
 use crate::low::enter;

@@ -7,8 +7,7 @@ use lib.ListN.{length, getD, take, drop, length-append}
 use lib.Seq.{length-take-le}
 use borrow.Author.Tests.{lt-ltb, le-ltb}
 use Rattle.lists.specs.Lists.{table, storeAt}
-use Rattle.tfs_spec.specs.Layout.{need, block, inodeSize}
-use Rattle.tfs_spec.specs.View.{view, inode, size, slotWith, place}
+use Rattle.tfs_spec.specs.Layout.{need, block, inodeSize, view, inode, size, slotWith, place}
 use Rattle.tfs_spec.specs.Check.{consistent, check}
 use Rattle.tfs_spec.specs.Consistent.{File}
 use Rattle.tfs_spec.specs.Requests.{Answer, refused, value, counted, transferView, readBuffer, writeImage}

@@ -1,7 +1,7 @@
 // Read and write on a consistent volume: bytes between a buffer and the file that a handle means.
 ghost use mathlib.Core.Path.{_≡_};
 ghost use Prim.Native.Nat.{_-_, _≤_, min};
-ghost use Rattle.tfs_spec.specs.View.{view};
+ghost use Rattle.tfs_spec.specs.Layout.{view};
 ghost use Rattle.tfs_spec.specs.Check.{consistent, check};
 ghost use Rattle.tfs_spec.specs.Requests.{transferView, readStep, writeStep};
 ghost use Rattle.tfs_steps.specs.Told.{stepTold, StepFits};

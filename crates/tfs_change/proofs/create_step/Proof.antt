@@ -7,8 +7,7 @@ use lib.ListN.{drop, replicate}
 use denote.Ref.{now}
 use borrow.Author.Needs.{needs}
 use borrow.Author.Tests.{not-true, not-false}
-use Rattle.tfs_spec.specs.Layout.{need, nameAllowed}
-use Rattle.tfs_spec.specs.View.{view}
+use Rattle.tfs_spec.specs.Layout.{need, nameAllowed, view}
 use Rattle.tfs_facts.specs.Chosen.{CreateGrant}
 use Rattle.tfs_steps.specs.Ready.{long}
 use Rattle.tfs_change.specs.Create.{Fresh, Chosen, create-unallowed, create-large, create-twice, create-fresh, create-full, create-crowded, create-grant, name-short, want-few, want-free, create-chosen, create-done}

@@ -5,8 +5,7 @@ use native.Mathlib.Omega.{arith}
 use denote.Ref.{now}
 use borrow.Author.Needs.{needs}
 use borrow.Author.Tests.{not-true, not-false}
-use Rattle.tfs_spec.specs.Layout.{nameAllowed}
-use Rattle.tfs_spec.specs.View.{view}
+use Rattle.tfs_spec.specs.Layout.{nameAllowed, view}
 use Rattle.tfs_steps.specs.Ready.{long}
 use Rattle.tfs_change.specs.Open.{open-unallowed, open-missing, open-found}
 use Rattle.tfs_change.proofs.open_step.Statement.{statement}

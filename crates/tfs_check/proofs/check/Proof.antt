@@ -6,8 +6,7 @@ use denote.Ref.{now}
 use borrow.Author.Tests.{lt-ltb, le-ltb}
 use Rattle.lists.specs.Lists.{least}
 use Rattle.list_laws.specs.Least.{least-le}
-use Rattle.tfs_spec.specs.Layout.{blocks}
-use Rattle.tfs_spec.specs.View.{view}
+use Rattle.tfs_spec.specs.Layout.{blocks, view}
 use Rattle.tfs_spec.specs.Check.{badSlot, badInode, check}
 use Rattle.tfs_check.specs.Files.{Formed}
 use Rattle.tfs_check.specs.Order.{blocksVerdict, inOrder, check-is, slots-at}

@@ -3,7 +3,7 @@ use mathlib.Core.Path.{_≡_, _∙_}
 use denote.Ref.{now}
 use borrow.Author.Tests.{lt-ltb, le-ltb}
 use Rattle.lists.specs.Lists.{least}
-use Rattle.tfs_spec.specs.View.{view}
+use Rattle.tfs_spec.specs.Layout.{view}
 use Rattle.tfs_spec.specs.Check.{claims, claimedTwice, badBit}
 use Rattle.tfs_check.specs.Order.{blocksVerdict, twice-at, bits-at}
 use native.Mathlib.Omega.{arith}

@@ -1,6 +1,6 @@
 -- `map_of` meets its contract: the view has the block.
 use borrow.Author.Needs.{needs}
-use Rattle.tfs_spec.specs.View.{view, viewN}
+use Rattle.tfs_spec.specs.Layout.{view, viewN}
 use Rattle.tfs_layout.proofs.map_of.Statement.{statement}
 use Rattle.tfs_layout.proofs.map_of.Tie as tie
 

@@ -4,8 +4,7 @@ use mathlib.Core.List.{List}
 use Prim.Native.Nat.{ℕ, _≤_, _-_}
 use native.Mathlib.Omega.{arith}
 use denote.Ref.{now}
-use Rattle.tfs_spec.specs.Layout.{setBits}
-use Rattle.tfs_spec.specs.View.{view}
+use Rattle.tfs_spec.specs.Layout.{setBits, view}
 use Rattle.tfs_spec.specs.Check.{claimsTo}
 use Rattle.tfs_check.specs.Doubled.{doubled}
 use Rattle.tfs_check.specs.Claimed.{marked-none, doubled-start, marked-more, doubled-more, claims-end}

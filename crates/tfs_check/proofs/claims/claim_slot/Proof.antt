@@ -3,8 +3,7 @@ use mathlib.Core.Path.{sym, ap, _∙_}
 use mathlib.Core.List.{List}
 use Prim.Native.Nat.{ℕ}
 use denote.Ref.{now}
-use Rattle.tfs_spec.specs.Layout.{setBits}
-use Rattle.tfs_spec.specs.View.{view}
+use Rattle.tfs_spec.specs.Layout.{setBits, view}
 use Rattle.tfs_check.specs.Doubled.{doubled}
 use Rattle.tfs_check.specs.Claimed.{Held, held, none-marked, none-doubled}
 use borrow.Author.Needs.{needs}

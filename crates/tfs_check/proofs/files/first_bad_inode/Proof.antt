@@ -2,7 +2,7 @@
 use Prim.Native.Nat.{_≤_, _-_}
 use borrow.Author.Count.{below-none, below-more}
 use Rattle.list_laws.specs.Least.{Below, found, none-found}
-use Rattle.tfs_spec.specs.View.{view}
+use Rattle.tfs_spec.specs.Layout.{view}
 use Rattle.tfs_spec.specs.Check.{badInode}
 use borrow.Author.Needs.{needs}
 use Rattle.tfs_check.proofs.files.first_bad_inode.Statement.{statement}

@@ -4,7 +4,7 @@ use Prim.Native.Nat.{_*_, _+_, _≤_}
 use native.Mathlib.Omega.{arith}
 use lib.ListN.{length}
 use denote.Ref.{now}
-use Rattle.tfs_spec.specs.View.{view}
+use Rattle.tfs_spec.specs.Layout.{view}
 use Rattle.tfs_inode.specs.Wrong.{bad-inode}
 use Rattle.tfs_check.specs.Files.{blocks-le, inode-fits, wrong-at}
 use borrow.Author.Needs.{needs}

@@ -1,7 +1,7 @@
 -- `free_slot` meets its contract: the directory's part is the volume's directory.
 use denote.Ref.{now}
 use borrow.Author.Needs.{needs}
-use Rattle.tfs_spec.specs.View.{view}
+use Rattle.tfs_spec.specs.Layout.{view}
 use Rattle.tfs_dir.specs.Find.{free-slot}
 use Rattle.tfs_dir.proofs.volume.free_slot.Statement.{statement}
 use Rattle.tfs_dir.proofs.volume.free_slot.Tie as tie

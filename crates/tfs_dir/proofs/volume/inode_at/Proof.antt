@@ -1,6 +1,6 @@
 -- `inode_at` meets its contract: the directory's part is the volume's directory.
 use borrow.Author.Needs.{needs}
-use Rattle.tfs_spec.specs.View.{inode}
+use Rattle.tfs_spec.specs.Layout.{inode}
 use Rattle.tfs_dir.proofs.volume.inode_at.Statement.{statement}
 use Rattle.tfs_dir.proofs.volume.inode_at.Tie as tie
 

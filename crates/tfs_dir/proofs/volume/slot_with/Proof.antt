@@ -1,7 +1,7 @@
 -- `slot_with` meets its contract: the directory's part is the volume's directory.
 use denote.Ref.{now}
 use borrow.Author.Needs.{needs}
-use Rattle.tfs_spec.specs.View.{view}
+use Rattle.tfs_spec.specs.Layout.{view}
 use Rattle.tfs_dir.specs.Find.{slot-with}
 use Rattle.tfs_dir.proofs.volume.slot_with.Statement.{statement}
 use Rattle.tfs_dir.proofs.volume.slot_with.Tie as tie

@@ -2,7 +2,7 @@
 use native.Mathlib.Omega.{arith}
 use denote.Ref.{now}
 use borrow.Author.Needs.{needs}
-use Rattle.tfs_spec.specs.View.{view}
+use Rattle.tfs_spec.specs.Layout.{view}
 use Rattle.tfs_facts.specs.Views.{view-n}
 use Rattle.tfs_map.specs.Free.{free-blocks, free-length}
 use Rattle.tfs_map.proofs.volume.choose.Statement.{statement}
