@@ -3,10 +3,9 @@ use mathlib.Core.Path.{_≡_}
 use mathlib.Core.Logic.{_≢_, _↔_}
 use mathlib.Core.Bool.{true, false, not}
 use Prim.Native.Nat.{ℕ, _+_, _-_, _*_, _≤_, _<_, min}
-use mathlib.Core.List.{List, [], _∷_}
+use mathlib.Core.List.{List}
 use lib.ListN.{length, getD}
 use lib.Dec.{T}
-use Rattle.lists.specs.Lists.{In}
 use Rattle.tfs_spec.specs.Layout.{slots, maxSize, need, mapBit, labelAllowed, nameAllowed, View, view, free, inode, name, size, freeBlocks}
 use Rattle.tfs_spec.specs.Check.{consistent, broken, check}
 use Rattle.tfs_spec.specs.Consistent.{File, Consistent, FirstBroken}
