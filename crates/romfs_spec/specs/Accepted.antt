@@ -69,14 +69,17 @@ executableAt s p = getD s (p + 3) 0 / 8 % 2
 -- its first word without the low four bits
 unfoldable pub nextAt : List ℕ → ℕ → ℕ
 nextAt s p = numberAt s p - numberAt s p % 16
+
 abbrev pub infoAt : List ℕ → ℕ → ℕ
 infoAt s p = numberAt s (p + 4)
+
 abbrev pub sizeAt : List ℕ → ℕ → ℕ
 sizeAt s p = numberAt s (p + 8)
 
 -- where its data begins and ends, if its name has n bytes
 abbrev pub dataAt : ℕ → ℕ → ℕ
 dataAt p n = p + 16 + pad16 (n + 1)
+
 abbrev pub endAt : List ℕ → ℕ → ℕ → ℕ
 endAt s p n = dataAt p n + pad16 (sizeAt s p)
 

@@ -52,6 +52,7 @@ badInfo s p = (eqb (fileType s p) 2 || (eqb (fileType s p) 3 || (eqb (fileType s
 -- or size not 0 for types other than 2 and 3
 unfoldable pub badSize : List ℕ → ℕ → Bool
 badSize s p = not (hasData (fileType s p)) && not (eqb (size s p) 0)
+
 unfoldable pub badHeader : List ℕ → ℕ → ℕ → Bool
 badHeader s bound p = overBound s bound p || (badName s p || (badSum s p || (badInfo s p || badSize s p)))
 
@@ -62,6 +63,7 @@ badNext s bound p = not (eqb (next s p) 0) && (ltb (next s p) (endOf s p) || leb
 -- a first header is not 0, and no multiple of 16, under E or not under the entry's own bound
 unfoldable pub badFirst : List ℕ → ℕ → ℕ → Bool
 badFirst s bound p = hasList s p && (not (eqb (info s p % 16) 0) || (ltb (info s p) (endOf s p) || leb (own s bound p) (info s p)))
+
 unfoldable pub badNesting : List ℕ → ℕ → ℕ → Bool
 badNesting s bound p = badNext s bound p || badFirst s bound p
 

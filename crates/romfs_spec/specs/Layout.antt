@@ -32,16 +32,20 @@ firstRoot s = afterName s 16
 -- ---- a header at p: in its first word bits 0 to 2 are the type, value 8 is executable, the other bits are the next header's offset
 unfoldable pub fileType : List ℕ → ℕ → ℕ
 fileType s p = word s p % 8
+
 unfoldable pub executable : List ℕ → ℕ → ℕ
 executable s p = word s p / 8 % 2
+
 unfoldable pub next : List ℕ → ℕ → ℕ
 next s p = word s p / 16 * 16
 
 -- spec.info, for a directory its first header
 unfoldable pub info : List ℕ → ℕ → ℕ
 info s p = word s (p + 4)
+
 unfoldable pub size : List ℕ → ℕ → ℕ
 size s p = word s (p + 8)
+
 unfoldable pub name : List ℕ → ℕ → List ℕ
 name s p = part (p + 16) (nameLength s (p + 16)) s
 

@@ -66,6 +66,7 @@ entryAt s p = record {
 -- 31: not a reached header
 unfoldable pub entryStep : List ℕ → ℕ → Answer Entry
 entryStep s p = cond (isReached s p) (granted (entryAt s p)) (refused 31 0)
+
 unfoldable pub entry : List ℕ → ℕ → Answer Entry
 entry s p = checked (check s) (entryStep s p)
 
@@ -73,6 +74,7 @@ entry s p = checked (check s) (entryStep s p)
 -- the length; 31: not a reached header, or not type 2 or 3
 unfoldable pub contentStep : List ℕ → ℕ → Answer ℕ
 contentStep s p = cond (isReached s p && hasData (fileType s p)) (granted (size s p)) (refused 31 0)
+
 unfoldable pub contentLength : List ℕ → ℕ → Answer ℕ
 contentLength s p = checked (check s) (contentStep s p)
 

@@ -31,12 +31,14 @@ badLabel v = leb 16 (firstZero (volumeName (v .head)))
 -- 4: "a slot is neither free nor used, or repeats the name of a lower slot"
 unfoldable pub repeats : View → ℕ → Bool
 repeats v s = ltb (least (λ t. not (free v t) && sameName (name v t) (name v s)) s) s
+
 unfoldable pub badSlot : View → ℕ → Bool
 badSlot v s = not (free v s) && (not (used v s) || repeats v s)
 
 -- 5: "a used slot's inode has size over 65,024, one of its first ⌈size/512⌉ numbers outside 3..N−1, or a later number not 0"
 unfoldable pub badNumber : ℕ → View → ℕ → ℕ → Bool
 badNumber B v s k = cond (ltb k (need B (size v s))) (not (inRange (v .n) (number v s k))) (not (eqb (number v s k) 0))
+
 unfoldable pub badInode : ℕ → View → ℕ → Bool
 badInode B v s = not (free v s) && (ltb (maxSize B) (size v s) || ltb (least (badNumber B v s) (numbers B)) (numbers B))
 

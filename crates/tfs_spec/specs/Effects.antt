@@ -182,6 +182,7 @@ pub record ByteLaws (B : ℕ) (img : List ℕ) : Type 0 where
 -- inodes and content blocks, "counted from the directory and inodes"
 abbrev pub inodeCount : ℕ → View → ℕ
 inodeCount B v = sum (λ s. cond (free v s) 0 1) (slots B)
+
 abbrev pub contentCount : ℕ → View → ℕ
 contentCount B v = sum (λ s. cond (free v s) 0 (need B (size v s))) (slots B)
 

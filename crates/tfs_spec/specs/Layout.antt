@@ -40,6 +40,7 @@ blocks B img = min (maxBlocks B) (length img / B)
 -- "Each block is handed on as a part of the image"
 unfoldable pub block : ℕ → List ℕ → ℕ → List ℕ
 block B img b = part (b * B) B img
+
 unfoldable pub setBlock : ℕ → List ℕ → ℕ → List ℕ → List ℕ
 setBlock B img b bs = withPart (b * B) B bs img
 
@@ -47,6 +48,7 @@ setBlock B img b bs = withPart (b * B) B bs img
 -- "magic 3745 in bytes 0..3; volume name in bytes 4..19"
 abbrev pub magic : ℕ
 magic = 3745
+
 abbrev pub volumeName : List ℕ → List ℕ
 volumeName head = part 4 16 head
 
@@ -59,6 +61,7 @@ mapByte b = 4 * (b / 32) + (3 - b % 32 / 8)
 -- "1 is reserved"
 unfoldable pub mapBit : List ℕ → ℕ → Bool
 mapBit map b = eqb (bitOf (getD map (mapByte b) 0) (b % 8)) 1
+
 unfoldable pub setBit : List ℕ → ℕ → ℕ → List ℕ
 setBit map b v = set map (mapByte b) (withBit (getD map (mapByte b) 0) (b % 8) v)
 
@@ -71,14 +74,17 @@ setBits map v (b ∷ bs) = setBits (setBit map b v) v bs
 -- "slots of 20 bytes: inode number (4), name (16, zero-ended)"
 unfoldable pub slot : List ℕ → ℕ → List ℕ
 slot dir s = part (s * 20) 20 dir
+
 unfoldable pub setSlot : List ℕ → ℕ → List ℕ → List ℕ
 setSlot dir s e = withPart (s * 20) 20 e dir
 
 -- of the 20 bytes e of a slot
 unfoldable pub slotInode : List ℕ → ℕ
 slotInode e = word e 0
+
 abbrev pub nameField : List ℕ → List ℕ
 nameField e = part 4 16 e
+
 unfoldable pub slotName : List ℕ → List ℕ
 slotName e = upToZero (nameField e)
 
@@ -110,6 +116,7 @@ entry inode name = bytes4 inode ++ padTo 16 name
 -- "size (4), then 127 block numbers"
 unfoldable pub inodeSize : List ℕ → ℕ
 inodeSize ino = word ino 0
+
 unfoldable pub inodeNumber : List ℕ → ℕ → ℕ
 inodeNumber ino k = word ino (4 + 4 * k)
 
@@ -155,22 +162,29 @@ view B img = viewN B (blocks B img) img
 -- ---- of slot s
 unfoldable pub free : View → ℕ → Bool
 free v s = slotFree (slot (v .dir) s)
+
 unfoldable pub used : View → ℕ → Bool
 used v s = slotUsed (v .n) (slot (v .dir) s)
+
 unfoldable pub inode : View → ℕ → ℕ
 inode v s = slotInode (slot (v .dir) s)
+
 unfoldable pub name : View → ℕ → List ℕ
 name v s = slotName (slot (v .dir) s)
+
 unfoldable pub size : View → ℕ → ℕ
 size v s = inodeSize (getD (v .inodes) s [])
+
 unfoldable pub number : View → ℕ → ℕ → ℕ
 number v s k = inodeNumber (getD (v .inodes) s []) k
 
 -- the slot of a name, of a handle, and the lowest free slot; the number of slots where there is none
 unfoldable pub slotOf : ℕ → View → List ℕ → ℕ
 slotOf B v nm = least (λ s. not (free v s) && sameName (name v s) nm) (slots B)
+
 unfoldable pub slotWith : ℕ → View → ℕ → ℕ
 slotWith B v h = least (λ s. not (free v s) && eqb (inode v s) h) (slots B)
+
 unfoldable pub freeSlot : ℕ → View → ℕ
 freeSlot B v = least (free v) (slots B)
 

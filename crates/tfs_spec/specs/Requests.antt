@@ -82,6 +82,7 @@ openView B v nm =
 
 abbrev pub openStep : ℕ → List ℕ → List ℕ → Answer
 openStep B img nm = openView B (view B img) nm
+
 unfoldable pub openAnswer : ℕ → List ℕ → List ℕ → Answer
 openAnswer B img nm = checked (check B img) refused (openStep B img nm)
 
@@ -126,8 +127,10 @@ createView B v nm sz =
 -- the image after: that of the stores where the answer is a grant
 abbrev pub stored : ℕ → List ℕ → Answer → List Store → Outcome
 stored B img a xs = record { answer = a; image = cond (granted a) (storeAll B img xs) img; buffer = [] }
+
 abbrev pub createStep : ℕ → List ℕ → List ℕ → ℕ → Outcome
 createStep B img nm sz = stored B img (createView B (view B img) nm sz) (createStores B (view B img) nm sz)
+
 unfoldable pub create : ℕ → List ℕ → List ℕ → ℕ → Outcome
 create B img nm sz = checked (check B img) (refuse img []) (createStep B img nm sz)
 
@@ -147,6 +150,7 @@ removeView B v nm =
 
 abbrev pub removeStep : ℕ → List ℕ → List ℕ → Outcome
 removeStep B img nm = stored B img (removeView B (view B img) nm) (removeStores B (view B img) nm)
+
 unfoldable pub remove : ℕ → List ℕ → List ℕ → Outcome
 remove B img nm = checked (check B img) (refuse img []) (removeStep B img nm)
 
@@ -198,12 +202,14 @@ listView B v s =
 
 abbrev pub listStep : ℕ → List ℕ → ℕ → Answer
 listStep B img s = listView B (view B img) s
+
 unfoldable pub listAnswer : ℕ → List ℕ → ℕ → Answer
 listAnswer B img s = checked (check B img) refused (listStep B img s)
 
 -- ---- free bytes: "512 times the zero bits below N"
 abbrev pub freeStep : ℕ → List ℕ → Answer
 freeStep B img = value (B * freeBlocks (view B img))
+
 unfoldable pub freeAnswer : ℕ → List ℕ → Answer
 freeAnswer B img = checked (check B img) refused (freeStep B img)
 
