@@ -57,7 +57,11 @@ pub fn list(image: &[u8], slot: u32) -> Result<Option<File>, Refusal> {
         return Ok(None);
     }
     let name = listed.name[..listed.name_length as usize].to_vec();
-    Ok(Some(File { name, inode: listed.inode, size: listed.size }))
+    Ok(Some(File {
+        name,
+        inode: listed.inode,
+        size: listed.size,
+    }))
 }
 
 /// The free bytes.
