@@ -15,13 +15,16 @@ use generate::Random;
 use reference::romfs::{self, Entry};
 use reference::{tfs, Refusal};
 
+/// A damaged image and the fault owed to it, if there is a part to damage.
+type Damaged = Option<(Vec<u8>, Refusal)>;
+
 /// The checks of a filesystem, and how its images are damaged.
 struct Filesystem<T> {
     rules: RangeInclusive<u32>,
     check: fn(&[u8]) -> Result<(), Refusal>,
     literal: fn(&[u8]) -> naive::Fault,
-    damage: fn(&mut Random, &T, u32) -> Option<(Vec<u8>, Refusal)>,
-    damage_twice: fn(&mut Random, &T, (u32, u32)) -> Option<(Vec<u8>, Refusal)>,
+    damage: fn(&mut Random, &T, u32) -> Damaged,
+    damage_twice: fn(&mut Random, &T, (u32, u32)) -> Damaged,
 }
 
 const TFS: Filesystem<Volume> = Filesystem {
