@@ -10,12 +10,14 @@
  *  - a pointer is valid for the length beside it: readable where it is const,
  *    readable and writable where it is not;
  *  - a pointer is not NULL; with length 0 it may be any other address;
- *  - the image, the name and the buffer of one call do not overlap;
+ *  - the image, the name (or label) and the buffer of one call do not overlap;
  *  - nobody else writes to them during the call.
- * Nothing else is asked: every value of every number, and every byte of the
- * image, the name and the buffer has a defined answer.
+ * Nothing else is asked: a request has a defined answer for every value of
+ * every number and every content of the image, the name and the buffer.
  *
- * A refused request changes no byte of the image and of the buffer.
+ * A refused request changes no byte of the image or of the buffer.
+ *
+ * A name is its bytes with no zero at the end: "TIMING" has length 6.
  */
 #ifndef TFS_H
 #define TFS_H
@@ -28,7 +30,7 @@ extern "C" {
 #endif
 
 #define TFS_BLOCK_SIZE 512u
-#define TFS_MAX_BLOCKS 4096u /* bytes past block 4095 are never read or changed */
+#define TFS_MAX_BLOCKS 4096u /* bytes past the last whole block, and past block 4095, are never read or changed */
 #define TFS_MIN_IMAGE 1536u
 #define TFS_SLOTS 25u
 #define TFS_MAX_FILE 65024u /* bytes */
@@ -52,7 +54,7 @@ enum tfs_refusal {
     TFS_NO_FREE_SLOT = 11,
     TFS_NO_ROOM = 12,         /* too few free blocks */
     TFS_NO_SUCH_NAME = 13,
-    TFS_NO_SUCH_HANDLE = 14,  /* handle of no file; for list, slot over 24 */
+    TFS_NO_SUCH_SLOT = 14,    /* slot over 24 */
     TFS_OFFSET_PAST_END = 15  /* offset greater than the file's size */
 };
 
@@ -60,7 +62,7 @@ enum tfs_refusal {
 typedef struct tfs_result {
     uint32_t refusal; /* an enum tfs_refusal; 0 is granted */
     uint32_t place;   /* the slot or block at fault (refusals 4 to 7), else 0 */
-    uint32_t value;   /* what is granted: a handle, a count or free bytes; else 0 */
+    uint32_t value;   /* what is granted: an inode number, a count or free bytes; else 0 */
 } tfs_result;
 
 /* The answer of tfs_list. */
@@ -68,7 +70,7 @@ typedef struct tfs_slot {
     uint32_t refusal;     /* as in tfs_result */
     uint32_t place;       /* as in tfs_result */
     uint32_t used;        /* 1: a file; 0: a free slot, or refused */
-    uint32_t inode;       /* the file's handle, else 0 */
+    uint32_t inode;       /* the file's inode number, else 0 */
     uint32_t size;        /* the file's size in bytes, else 0 */
     uint32_t name_length; /* 1 to 15 for a file, else 0 */
     uint8_t name[16];     /* the file's name, padded with zeros; else zeros */
@@ -82,28 +84,27 @@ tfs_result tfs_format(uint8_t *image, size_t image_length, const uint8_t *label,
  * refusal of the check. Refusals: 1 to 7. */
 tfs_result tfs_check(const uint8_t *image, size_t image_length);
 
-/* Gives the handle of a file. A handle is the file's inode number: after the
- * file's removal it is refused, or means a newer file whose inode took that
- * block. Refusals: 8, 13. */
-tfs_result tfs_open(const uint8_t *image, size_t image_length, const uint8_t *name, size_t name_length);
-
-/* Creates a file of this size, all zeros, and gives its handle. The size is
- * fixed from then on. Refusals: 8 to 12, in this order. */
+/* Creates a file of this size, all zeros, and gives its inode number, which
+ * tfs_list shows too. No request takes it, and after a remove or a format it
+ * may be another file's. The size is fixed from then on.
+ * Refusals: 8 to 12, in this order. */
 tfs_result tfs_create(uint8_t *image, size_t image_length, const uint8_t *name, size_t name_length, uint32_t size);
 
 /* Removes a file. Refusals: 8, 13. */
 tfs_result tfs_remove(uint8_t *image, size_t image_length, const uint8_t *name, size_t name_length);
 
-/* Reads from the offset on into the buffer, and gives the count: the buffer's
- * length, or fewer at the file's end. The rest of the buffer stays.
- * Refusals: 14, 15. */
-tfs_result tfs_read(const uint8_t *image, size_t image_length, uint32_t handle, uint32_t offset, uint8_t *buffer,
-                    size_t buffer_length);
+/* Reads the file that has this name now, from the offset on, into the buffer,
+ * and gives the count: the buffer's length, or fewer at the file's end, 0 where
+ * the offset equals the size. The rest of the buffer stays.
+ * Refusals: 8, 13, 15, in this order. */
+tfs_result tfs_read(const uint8_t *image, size_t image_length, const uint8_t *name, size_t name_length,
+                    uint32_t offset, uint8_t *buffer, size_t buffer_length);
 
-/* Writes the buffer into the file from the offset on, and gives the count: the
- * buffer's length, or fewer at the file's end. Refusals: 14, 15. */
-tfs_result tfs_write(uint8_t *image, size_t image_length, uint32_t handle, uint32_t offset, const uint8_t *buffer,
-                     size_t buffer_length);
+/* Writes the buffer into the file that has this name now, from the offset on,
+ * and gives the count: the buffer's length, or fewer at the file's end, 0 where
+ * the offset equals the size. Refusals: 8, 13, 15, in this order. */
+tfs_result tfs_write(uint8_t *image, size_t image_length, const uint8_t *name, size_t name_length, uint32_t offset,
+                     const uint8_t *buffer, size_t buffer_length);
 
 /* Gives what stands in a slot, 0 to 24. Refusal: 14. */
 tfs_slot tfs_list(const uint8_t *image, size_t image_length, uint32_t slot);

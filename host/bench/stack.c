@@ -87,11 +87,10 @@ static void nothing(void)
 
 REQUEST(run_format, tfs_format(buffer, sizeof buffer, other, 3))
 REQUEST(run_check, tfs_check(image, VOLUME))
-REQUEST(run_open, tfs_open(image, VOLUME, file, 1))
 REQUEST(run_create, tfs_create(image, VOLUME, other, 3, TFS_MAX_FILE))
 REQUEST(run_remove, tfs_remove(image, VOLUME, other, 3))
-REQUEST(run_read, tfs_read(image, VOLUME, 3, 0, buffer, sizeof buffer))
-REQUEST(run_write, tfs_write(image, VOLUME, 3, 0, buffer, sizeof buffer))
+REQUEST(run_read, tfs_read(image, VOLUME, file, 1, 0, buffer, sizeof buffer))
+REQUEST(run_write, tfs_write(image, VOLUME, file, 1, 0, buffer, sizeof buffer))
 REQUEST(run_list, tfs_list(image, VOLUME, 24))
 REQUEST(run_free_bytes, tfs_free_bytes(image, VOLUME))
 REQUEST(run_rom_check, romfs_check(rom, sizeof rom))
@@ -103,11 +102,10 @@ static const struct {
     const char *name;
     void (*run)(void);
 } requests[] = {
-    {"TFS format", run_format},       {"TFS check", run_check},       {"TFS open", run_open},
-    {"TFS create", run_create},       {"TFS remove", run_remove},     {"TFS read", run_read},
-    {"TFS write", run_write},         {"TFS list", run_list},         {"TFS free bytes", run_free_bytes},
-    {"romfs check", run_rom_check},   {"romfs find", run_rom_find},   {"romfs entry", run_rom_entry},
-    {"romfs content", run_rom_content},
+    {"TFS format", run_format},   {"TFS check", run_check},           {"TFS create", run_create},
+    {"TFS remove", run_remove},   {"TFS read", run_read},             {"TFS write", run_write},
+    {"TFS list", run_list},       {"TFS free bytes", run_free_bytes}, {"romfs check", run_rom_check},
+    {"romfs find", run_rom_find}, {"romfs entry", run_rom_entry},     {"romfs content", run_rom_content},
 };
 
 /* ---- the measurement */

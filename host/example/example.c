@@ -56,24 +56,21 @@ static void done(const char *request, tfs_result r)
 static void use_volume(uint8_t *image, size_t length)
 {
     uint8_t buffer[32];
-    tfs_result file, count;
     tfs_slot slot;
 
     done("format", tfs_format(image, length, TEXT("PUMP")));
-    file = tfs_create(image, length, TEXT("TIMING"), 1000);
-    value("create TIMING, handle", file);
-    value("write at 990, count", tfs_write(image, length, file.value, 990, TEXT("3 minutes on, 2 off")));
+    value("create TIMING, inode number", tfs_create(image, length, TEXT("TIMING"), 1000));
+    value("write at 990, count", tfs_write(image, length, TEXT("TIMING"), 990, TEXT("3 minutes on, 2 off")));
     memset(buffer, '.', sizeof buffer);
-    count = tfs_read(image, length, file.value, 990, buffer, sizeof buffer);
-    value("read at 990, count", count);
+    value("read at 990, count", tfs_read(image, length, TEXT("TIMING"), 990, buffer, sizeof buffer));
     printf("buffer: \"%.*s\"\n", (int)sizeof buffer, (const char *)buffer);
     slot = tfs_list(image, length, 0);
     printf("slot 0: %s, %lu bytes\n", (const char *)slot.name, (unsigned long)slot.size);
     value("free bytes", tfs_free_bytes(image, length));
-    value("open PRESSURE", tfs_open(image, length, TEXT("PRESSURE")));
+    value("read PRESSURE, count", tfs_read(image, length, TEXT("PRESSURE"), 0, buffer, sizeof buffer));
 }
 
-/* Every request sees a damaged byte, and none changes anything then. */
+/* A request finds what breaks the rules of the volume, and then changes nothing. */
 static void damage_volume(uint8_t *image, size_t length)
 {
     uint8_t *second = image + 3 * TFS_BLOCK_SIZE + 11; /* the second content block of TIMING, 5 */
@@ -87,7 +84,18 @@ static void damage_volume(uint8_t *image, size_t length)
     done("check with a wrong map bit", tfs_check(image, length));
     *map ^= 1 << 6;
     done("check after repair", tfs_check(image, length));
+}
+
+/* A name means the file that has it now: none after a remove, a new one after a create. */
+static void use_name_again(uint8_t *image, size_t length)
+{
+    uint8_t buffer[4];
+
     done("remove TIMING", tfs_remove(image, length, TEXT("TIMING")));
+    value("read TIMING, count", tfs_read(image, length, TEXT("TIMING"), 990, buffer, sizeof buffer));
+    value("create RATES, inode number", tfs_create(image, length, TEXT("RATES"), 8));
+    value("create TIMING, inode number", tfs_create(image, length, TEXT("TIMING"), 8));
+    value("read TIMING, count", tfs_read(image, length, TEXT("TIMING"), 6, buffer, sizeof buffer));
 }
 
 /* The volume "V" with an empty regular file "a". */
@@ -120,6 +128,7 @@ int main(void)
 
     use_volume(image, sizeof image);
     damage_volume(image, sizeof image);
+    use_name_again(image, sizeof image);
     read_rom();
     return 0;
 }

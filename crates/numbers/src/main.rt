@@ -94,11 +94,10 @@ fn sizes(image: &mut [u8]) {
     answer(b"  free bytes: ", tfs::free_bytes(image));
 }
 
-// Every request on an image of 1,535 bytes: those on names, then the others.
+// Every request on an image of 1,535 bytes, in two halves.
 fn short(image: &mut [u8]) {
     text(b"1535 bytes\n");
     done(b"  format: ", tfs::format(image, b"SHORT"));
-    answer(b"  open: ", tfs::open(image, b"FILE"));
     answer(b"  create: ", tfs::create(image, b"FILE", 0));
     done(b"  remove: ", tfs::remove(image, b"FILE"));
 }
@@ -106,8 +105,8 @@ fn short(image: &mut [u8]) {
 fn short_too(image: &mut [u8]) {
     checked(b"  check: ", tfs::check(image));
     let mut buf = [0u8; 8];
-    answer(b"  read: ", tfs::read(image, 3, 0, &mut buf));
-    answer(b"  write: ", tfs::write(image, 3, 0, b"12345678"));
+    answer(b"  read: ", tfs::read(image, b"FILE", 0, &mut buf));
+    answer(b"  write: ", tfs::write(image, b"FILE", 0, b"12345678"));
     let listing = tfs::list(image, 0);
     let entry = listing.entry;
     listed(b"  list: ", entry);
@@ -178,5 +177,8 @@ fn main() {
     text(b"format 28 blocks");
     full(&mut small);
     done(b"  remove C: ", tfs::remove(&mut small, b"C"));
-    answer(b"  create NEW: handle ", tfs::create(&mut small, b"NEW", 0));
+    answer(
+        b"  create NEW: inode number ",
+        tfs::create(&mut small, b"NEW", 0),
+    );
 }

@@ -6,11 +6,10 @@ ghost use Rattle.packed.specs.Cases.{outcome, zeros};
 use crate::lines::number;
 use crate::lines::text;
 
-// A request by its number, its two numbers, and the lengths of its name, buffer and image.
+// A request by its number, its argument that is a number, and the lengths of its name, buffer and image.
 pub struct Given {
     pub request: u32,
-    pub first: u32,
-    pub second: u32,
+    pub number: u32,
     pub name: usize,
     pub buf: usize,
     pub image: usize,
@@ -69,15 +68,13 @@ pub fn next(name: &mut [u8], buf: &mut [u8], image: &mut [u8]) -> Given
     ensures { λ r. ⌜ (r .name ≤ length (now (name .exit))) × (r .buf ≤ length (now (buf .exit))) × (r .image ≤ length (now (image .exit))) ⌝ }
 {
     let request = crate::byte();
-    let first = crate::number();
-    let second = crate::number();
+    let number = crate::number();
     let a = crate::bytes(name);
     let b = crate::bytes(buf);
     let c = crate::bytes(image);
     Given {
         request: request,
-        first: first,
-        second: second,
+        number: number,
         name: a,
         buf: b,
         image: c,

@@ -4,7 +4,7 @@
 ghost use mathlib.Core.Path.{_≡_};
 ghost use Prim.Native.Nat.{_^_, _<_, _≤_};
 ghost use lib.ListN.{length};
-ghost use Rattle.packed.specs.Hash.{times, hashStep, hashOn};
+ghost use Rattle.packed.specs.Hash.{times, hashOn};
 use spans::words::be32;
 
 pub mod cases;

@@ -70,14 +70,14 @@ fn of_content(part: &[u8]) -> Outcome {
 
 // The requests by their numbers in the packed form. No table has the refusal of an unknown one.
 fn request(given: Given, name: &[u8], image: &[u8]) -> Outcome {
-    let first = given.first;
+    let number = given.number;
     let request = given.request;
     match request {
         17 => of_check(romfs::check(image)),
-        18 => of_find(romfs::find(image, first, name)),
-        19 => of_entry(romfs::entry(image, first)),
-        20 => of_length(romfs::content_length(image, first)),
-        21 => of_content(romfs::content(image, first)),
+        18 => of_find(romfs::find(image, number, name)),
+        19 => of_entry(romfs::entry(image, number)),
+        20 => of_length(romfs::content_length(image, number)),
+        21 => of_content(romfs::content(image, number)),
         _ => refused(1000, 0),
     }
 }
@@ -85,7 +85,7 @@ fn request(given: Given, name: &[u8], image: &[u8]) -> Outcome {
 // The content that is asked for, and nothing for the other requests.
 fn text(given: Given, image: &[u8]) -> &[u8] {
     if given.request == 21 {
-        return romfs::content(image, given.first);
+        return romfs::content(image, given.number);
     }
     &image[0..0]
 }

@@ -8,7 +8,7 @@ use lib.ListN.{length}
 use lib.Dec.{ltb, ltb→lt, lit<, lit≤}
 use Rattle.list_laws.specs.Test.{to-false}
 use Rattle.lists.specs.Lists.{least, sum, zeros, zeroAt, firstZero, upToZero, word, words, bitOf, withBit, part, withPart}
-use Rattle.tfs_spec.specs.Layout.{need, blocks, block, setBlock, mapBit, setBit, slot, setSlot, slotInode, slotName, slotFree, nameFormed, slotUsed, sameName, entry, inodeSize, inodeNumber, inodeBlock, labelAllowed, nameAllowed, inodeAt, viewN, view, free, used, inode, name, size, number, slotOf, slotWith, freeSlot, freeBlocks}
+use Rattle.tfs_spec.specs.Layout.{need, blocks, block, setBlock, mapBit, setBit, slot, setSlot, slotInode, slotName, slotFree, nameFormed, slotUsed, sameName, entry, inodeSize, inodeNumber, inodeBlock, labelAllowed, nameAllowed, inodeAt, viewN, view, free, used, inode, name, size, number, slotOf, freeSlot, freeBlocks, View}
 use Rattle.tfs_spec.specs.Check.{consistent, tooShort, badMagic, badLabel, repeats, badSlot, badNumber, badInode, fileClaims, claimsTo, claims, checkView, check}
 use Rattle.tfs_facts.specs.Stores.{Fits, length-storeAll}
 use Rattle.romfs_spec.specs.Layout.{fullSize, nameLength, nameEnds, afterName, firstRoot, fileType, executable, next, info, contentAt, endOf, own, isDots, descends, hasList, hasData, wordSum}
@@ -17,7 +17,7 @@ use Rattle.romfs_spec.specs.Check.{badFullSize, badVolumeSum, badVolumeName, ov
 use Rattle.romfs_spec.specs.Check as rom
 use Rattle.romfs_spec.specs.Requests.{granted, firstOf, matchFrom, matchIn, isDirectory, findStep, find, Entry, entryAt, entryStep, contentStep, contentLength}
 use Rattle.romfs_spec.specs.Requests as requests
-use Rattle.tfs_spec.specs.Requests.{Answer, done, value, unused, file, refused, Outcome, Store, storeAll, formatStores, format, freeFrom, chosen, placeStores, createStores, createView, stored, create, counted, transferView, read, write, freeAnswer}
+use Rattle.tfs_spec.specs.Requests.{Answer, done, value, unused, file, refused, Outcome, Store, storeAll, formatStores, format, freeFrom, chosen, placeStores, createStores, createView, stored, create, refuse, Lookup, inSlot, denied, lookup, looked, counted, transferAnswer, readFile, read, writeFile, write, freeAnswer}
 
 -- the names, as bytes
 abbrev PUMP : List ℕ
@@ -63,17 +63,17 @@ computed img a b into from =
     ∷ block 512 (f .image) 0
     ∷ block 512 (f .image) 1
     ∷ code (freeAnswer 512 (f .image))
-    -- then create "TIMING", 1,000: handle, map, slot 0, inode, free bytes
+    -- then create "TIMING", 1,000: inode number, map, slot 0, inode, free bytes
     ∷ code (c .answer)
     ∷ block 512 (c .image) 1
     ∷ slot (block 512 (c .image) 2) 0
     ∷ block 512 (c .image) 3
     ∷ code (freeAnswer 512 (c .image))
-    -- read 200 at 900, 1,000 and 1,001; write 30 at 990
-    ∷ code (read 512 (c .image) 3 900 into .answer)
-    ∷ code (read 512 (c .image) 3 1000 into .answer)
-    ∷ code (read 512 (c .image) 3 1001 into .answer)
-    ∷ code (write 512 (c .image) 3 990 from .answer)
+    -- read 200 of "TIMING" at 900, 1,000 and 1,001; write 30 at 990
+    ∷ code (read 512 (c .image) TIMING 900 into .answer)
+    ∷ code (read 512 (c .image) TIMING 1000 into .answer)
+    ∷ code (read 512 (c .image) TIMING 1001 into .answer)
+    ∷ code (write 512 (c .image) TIMING 990 from .answer)
     -- blocks 31 and 32 in a map, written and read
     ∷ setBit (zeros 512) 31 1
     ∷ setBit (zeros 512) 32 1
@@ -128,7 +128,7 @@ made img = storeAll 512 (formatted img) (createStores 512 (viewN 512 128 (format
 
 -- the definitions that are computed on them: `unfolding computing` opens them all
 computing : Unit {0}
-unfolding least sum zeroAt firstZero upToZero word bitOf withBit part withPart need block setBlock mapBit setBit slot setSlot slotInode slotName slotFree nameFormed slotUsed sameName entry inodeSize inodeNumber inodeBlock labelAllowed nameAllowed inodeAt viewN free used inode name size number slotOf slotWith freeSlot freeBlocks badMagic badLabel repeats badSlot badNumber badInode fileClaims claimsTo claims checkView formatStores freeFrom chosen placeStores createStores createView counted transferView formatted made
+unfolding least sum zeroAt firstZero upToZero word bitOf withBit part withPart need block setBlock mapBit setBit slot setSlot slotInode slotName slotFree nameFormed slotUsed sameName entry inodeSize inodeNumber inodeBlock labelAllowed nameAllowed inodeAt viewN free used inode name size number slotOf freeSlot freeBlocks badMagic badLabel repeats badSlot badNumber badInode fileClaims claimsTo claims checkView formatStores freeFrom chosen placeStores createStores createView lookup counted transferAnswer formatted made
 computing = tt
 
 -- .. and those that are computed on the romfs image
@@ -159,6 +159,10 @@ module _ {n : ℕ} {img : List ℕ} (g : Image n img) where
   unfolding format computing
   format-is = rw long
 
+-- what read and write answer, by the view
+abbrev transferOf : View → List ℕ → ℕ → ℕ → Answer
+transferOf v nm o len = looked (lookup 512 v nm) refused (λ s. transferAnswer v s o len)
+
 -- the requests on a volume
 module _ {n : ℕ} {img : List ℕ} (v : Volume n img) where
   passes : check 512 img ≡ consistent
@@ -169,13 +173,25 @@ module _ {n : ℕ} {img : List ℕ} (v : Volume n img) where
   unfolding create view
   create-is nm sz = rw (passes, blocks-are (v .image))
 
-  read-is : (h o k : ℕ) (buf : List ℕ) → length buf ≡ k → read 512 img h o buf .answer ≡ transferView 512 (viewN 512 n img) h o k
-  unfolding read view
-  read-is h o k buf e = rw (passes, blocks-are (v .image), e)
+  view-is : view 512 img ≡ viewN 512 n img
+  unfolding view
+  view-is = rw (blocks-are (v .image))
 
-  write-is : (h o k : ℕ) (buf : List ℕ) → length buf ≡ k → write 512 img h o buf .answer ≡ transferView 512 (viewN 512 n img) h o k
-  unfolding write view
-  write-is h o k buf e = rw (passes, blocks-are (v .image), e)
+  read-is : (nm : List ℕ) (o k : ℕ) (buf : List ℕ) → length buf ≡ k → read 512 img nm o buf .answer ≡ transferOf (viewN 512 n img) nm o k
+  unfolding read
+  read-is nm o k buf e = rw passes (go (lookup 512 (view 512 img) nm) ∙ λ i. transferOf (view-is i) nm o (e i))
+    where
+      go : (x : Lookup) → looked x (refuse img buf) (λ s. readFile 512 img s o buf) .answer ≡ looked x refused (λ s. transferAnswer (view 512 img) s o (length buf))
+      go (inSlot s) = refl
+      go (denied num) = refl
+
+  write-is : (nm : List ℕ) (o k : ℕ) (buf : List ℕ) → length buf ≡ k → write 512 img nm o buf .answer ≡ transferOf (viewN 512 n img) nm o k
+  unfolding write
+  write-is nm o k buf e = rw passes (go (lookup 512 (view 512 img) nm) ∙ λ i. transferOf (view-is i) nm o (e i))
+    where
+      go : (x : Lookup) → looked x (refuse img []) (λ s. writeFile 512 img s o buf) .answer ≡ looked x refused (λ s. transferAnswer (view 512 img) s o (length buf))
+      go (inSlot s) = refl
+      go (denied num) = refl
 
   free-is : freeAnswer 512 img ≡ value (512 * freeBlocks (viewN 512 n img))
   unfolding freeAnswer view
@@ -228,11 +244,11 @@ module _ {img : List ℕ} (g : Image 128 img) where
   free-made : freeAnswer 512 (create 512 (format 512 img PUMP .image) TIMING 1000 .image) ≡ value (512 * freeBlocks (viewN 512 128 (made img)))
   free-made = ap (λ (c : Outcome). freeAnswer 512 (c .image)) is-made ∙ free-is filled
 
-  read-made : (o k : ℕ) (buf : List ℕ) → length buf ≡ k → read 512 (create 512 (format 512 img PUMP .image) TIMING 1000 .image) 3 o buf .answer ≡ transferView 512 (viewN 512 128 (made img)) 3 o k
-  read-made o k buf e = ap (λ (c : Outcome). read 512 (c .image) 3 o buf .answer) is-made ∙ read-is filled 3 o k buf e
+  read-made : (o k : ℕ) (buf : List ℕ) → length buf ≡ k → read 512 (create 512 (format 512 img PUMP .image) TIMING 1000 .image) TIMING o buf .answer ≡ transferOf (viewN 512 128 (made img)) TIMING o k
+  read-made o k buf e = ap (λ (c : Outcome). read 512 (c .image) TIMING o buf .answer) is-made ∙ read-is filled TIMING o k buf e
 
-  write-made : (o k : ℕ) (buf : List ℕ) → length buf ≡ k → write 512 (create 512 (format 512 img PUMP .image) TIMING 1000 .image) 3 o buf .answer ≡ transferView 512 (viewN 512 128 (made img)) 3 o k
-  write-made o k buf e = ap (λ (c : Outcome). write 512 (c .image) 3 o buf .answer) is-made ∙ write-is filled 3 o k buf e
+  write-made : (o k : ℕ) (buf : List ℕ) → length buf ≡ k → write 512 (create 512 (format 512 img PUMP .image) TIMING 1000 .image) TIMING o buf .answer ≡ transferOf (viewN 512 128 (made img)) TIMING o k
+  write-made o k buf e = ap (λ (c : Outcome). write 512 (c .image) TIMING o buf .answer) is-made ∙ write-is filled TIMING o k buf e
 
 -- every row of the table at once, for any images and buffers of these lengths
 pub starred : (img a b into from : List ℕ) → length img ≡ 65536 → length a ≡ 67072 → length b ≡ 66560 → length into ≡ 200 → length from ≡ 30 → computed img a b into from ≡ expected

@@ -12,7 +12,7 @@ use Rattle.tfs_spec.specs.Layout.{block, slot, slotFree, slotInode, slotName, i
 use Rattle.tfs_spec.specs.Check.{consistent, check}
 use Rattle.tfs_spec.specs.Consistent.{File}
 use Rattle.tfs_spec.specs.Requests.{refused, unused, file, listView}
-use Rattle.tfs_steps.specs.Ready.{size-is, inode-in}
+use Rattle.tfs_steps.specs.Ready.{file-ready, sized}
 
 pub list-past : (img : List ℕ) (s : ℕ) → 25 ≤ s → refused 14 0 ≡ listView 512 (view 512 img) s
 unfolding listView
@@ -34,12 +34,12 @@ module _ (img dir : List ℕ) (s : ℕ) (at : dir ≡ view 512 img .dir) (h : s 
 
     -- the inode of a file lies inside the image
     pub list-inside : i * 512 + 512 ≤ length img
-    list-inside = omega (arith, inode-is, inode-in img passed s taken)
+    list-inside = file-ready img passed s taken i inode-is .0
 
     pub list-file : (z : ℕ) → z ≡ inodeSize (block 512 img i) → file (slotName (slot dir s)) i z ≡ listView 512 (view 512 img) s
     unfolding listView free name
     list-file z ez =
-        let sz : z ≡ size (view 512 img) s = ez ∙ ap (λ (b : ℕ). inodeSize (block 512 img b)) inode-is ∙ sym (size-is img passed s taken) in
+        let sz : z ≡ size (view 512 img) s = sized img passed s taken i z inode-is ez in
         rw (lt-ltb s 25 h, ← sz, ← inode-is, ← at, e)
 
 -- a name cut out of its padded field

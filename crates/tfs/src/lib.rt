@@ -4,7 +4,7 @@ mod look; // look.rt: list and free bytes on a consistent volume
 
 ghost use mathlib.Core.Path.{_≡_};
 ghost use Rattle.tfs_spec.specs.Check.{check};
-ghost use Rattle.tfs_spec.specs.Requests.{format, openAnswer, create, remove, read, write, listAnswer, freeAnswer};
+ghost use Rattle.tfs_spec.specs.Requests.{format, create, remove, read, write, listAnswer, freeAnswer};
 ghost use Rattle.tfs.specs.Told.{checkTold, CheckFits, answerTold, AnswerFits, doneTold, DoneFits, listingTold, listedName, EntryFits};
 use crate::answers::answer_of;
 use crate::answers::done_of;
@@ -12,7 +12,6 @@ use crate::answers::fault_of;
 use crate::look::free_step;
 use crate::look::list_step;
 use tfs_change::create_step;
-use tfs_change::open_step;
 use tfs_change::remove_step;
 use tfs_check::Verdict;
 use tfs_dir::names::label_allowed;
@@ -38,7 +37,7 @@ pub enum CheckAnswer {
     Refused(Fault),
 }
 
-// What open, create, read, write and free bytes answer: granted with a number, refused by its number, or an inconsistent volume with its fault.
+// What create, read, write and free bytes answer: granted with a number, refused by its number, or an inconsistent volume with its fault.
 pub enum Answer {
     Granted(u32),
     Refused(u32),
@@ -90,17 +89,7 @@ pub fn check(image: &[u8]) -> CheckAnswer
     }
 }
 
-// The handle of the file with this name.
-pub fn open(image: &[u8], name: &[u8]) -> Answer
-    ensures { λ r. ⌜ (answerTold r ≡ openAnswer 512 (now (image .entry)) (now (name .entry))) × AnswerFits r ⌝ }
-{
-    match check(image) {
-        CheckAnswer::Refused(f) => Answer::Inconsistent(f),
-        CheckAnswer::Consistent => answer_of(open_step(image, name)),
-    }
-}
-
-// A file of this name and size, all zeros; granted with its handle.
+// A file of this name and size, all zeros; granted with its inode number.
 pub fn create(image: &mut [u8], name: &[u8], size: u32) -> Answer
     ensures { λ r. ⌜ (answerTold r ≡ create 512 (now (image .entry)) (now (name .entry)) size .answer) × (now (image .exit) ≡ create 512 (now (image .entry)) (now (name .entry)) size .image) × AnswerFits r ⌝ }
 {
@@ -120,23 +109,23 @@ pub fn remove(image: &mut [u8], name: &[u8]) -> Done
     }
 }
 
-// Reads from the file's offset on into the buffer, granted with the count; the rest of the buffer stays.
-pub fn read(image: &[u8], handle: u32, offset: u32, buf: &mut [u8]) -> Answer
-    ensures { λ r. ⌜ (answerTold r ≡ read 512 (now (image .entry)) handle offset (now (buf .entry)) .answer) × (now (buf .exit) ≡ read 512 (now (image .entry)) handle offset (now (buf .entry)) .buffer) × AnswerFits r ⌝ }
+// Reads from the offset on of the file of this name into the buffer, granted with the count; the rest of the buffer stays.
+pub fn read(image: &[u8], name: &[u8], offset: u32, buf: &mut [u8]) -> Answer
+    ensures { λ r. ⌜ (answerTold r ≡ read 512 (now (image .entry)) (now (name .entry)) offset (now (buf .entry)) .answer) × (now (buf .exit) ≡ read 512 (now (image .entry)) (now (name .entry)) offset (now (buf .entry)) .buffer) × AnswerFits r ⌝ }
 {
     match check(image) {
         CheckAnswer::Refused(f) => Answer::Inconsistent(f),
-        CheckAnswer::Consistent => answer_of(read_step(image, handle, offset, buf)),
+        CheckAnswer::Consistent => answer_of(read_step(image, name, offset, buf)),
     }
 }
 
-// Writes the buffer into the file from the offset on, as far as the file reaches; granted with the count.
-pub fn write(image: &mut [u8], handle: u32, offset: u32, buf: &[u8]) -> Answer
-    ensures { λ r. ⌜ (answerTold r ≡ write 512 (now (image .entry)) handle offset (now (buf .entry)) .answer) × (now (image .exit) ≡ write 512 (now (image .entry)) handle offset (now (buf .entry)) .image) × AnswerFits r ⌝ }
+// Writes the buffer into the file of this name from the offset on, as far as the file reaches; granted with the count.
+pub fn write(image: &mut [u8], name: &[u8], offset: u32, buf: &[u8]) -> Answer
+    ensures { λ r. ⌜ (answerTold r ≡ write 512 (now (image .entry)) (now (name .entry)) offset (now (buf .entry)) .answer) × (now (image .exit) ≡ write 512 (now (image .entry)) (now (name .entry)) offset (now (buf .entry)) .image) × AnswerFits r ⌝ }
 {
     match check(image) {
         CheckAnswer::Refused(f) => Answer::Inconsistent(f),
-        CheckAnswer::Consistent => answer_of(write_step(image, handle, offset, buf)),
+        CheckAnswer::Consistent => answer_of(write_step(image, name, offset, buf)),
     }
 }
 

@@ -7,7 +7,7 @@ use Rattle.tfs.specs.Told.{listedName}
 use Rattle.tfs_c.specs.declared.TfsResult.{TfsResult}
 use Rattle.tfs_c.specs.declared.TfsSlot.{TfsSlot}
 
--- the refusal's number, 0 for granted; its place; the handle, the count or the free bytes
+-- the refusal's number, 0 for granted; its place; the inode number, the count or the free bytes
 abbrev pub result : ℕ → ℕ → ℕ → TfsResult
 result num p x = record { refusal = num; place = p; value = x }
 

@@ -104,7 +104,7 @@ pub extern "C" fn tfs_format(image: &mut [u8], label: &[u8]) -> TfsResult
     of_done(tfs::format(image, label))
 }
 
-// A file of this name and size, all zeros; the value is its handle.
+// A file of this name and size, all zeros; the value is its inode number.
 #[no_mangle]
 pub extern "C" fn tfs_create(image: &mut [u8], name: &[u8], size: u32) -> TfsResult
     ensures { λ r. ⌜ (r ≡ resultOf (rules.create 512 (now (image .entry)) (now (name .entry)) size .answer)) × (now (image .exit) ≡ rules.create 512 (now (image .entry)) (now (name .entry)) size .image) ⌝ }
@@ -120,28 +120,20 @@ pub extern "C" fn tfs_remove(image: &mut [u8], name: &[u8]) -> TfsResult
     of_done(tfs::remove(image, name))
 }
 
-// The value is the handle of the file with this name.
+// Reads from the offset on of the file of this name; the value is the count, the rest of the buffer stays.
 #[no_mangle]
-pub extern "C" fn tfs_open(image: &[u8], name: &[u8]) -> TfsResult
-    ensures { λ r. ⌜ r ≡ resultOf (rules.openAnswer 512 (now (image .entry)) (now (name .entry))) ⌝ }
+pub extern "C" fn tfs_read(image: &[u8], name: &[u8], offset: u32, buf: &mut [u8]) -> TfsResult
+    ensures { λ r. ⌜ (r ≡ resultOf (rules.read 512 (now (image .entry)) (now (name .entry)) offset (now (buf .entry)) .answer)) × (now (buf .exit) ≡ rules.read 512 (now (image .entry)) (now (name .entry)) offset (now (buf .entry)) .buffer) ⌝ }
 {
-    of_answer(tfs::open(image, name))
+    of_answer(tfs::read(image, name, offset, buf))
 }
 
-// Reads from the file's offset on; the value is the count, the rest of the buffer stays.
+// Writes into the file of this name from the offset on, as far as it reaches; the value is the count.
 #[no_mangle]
-pub extern "C" fn tfs_read(image: &[u8], handle: u32, offset: u32, buf: &mut [u8]) -> TfsResult
-    ensures { λ r. ⌜ (r ≡ resultOf (rules.read 512 (now (image .entry)) handle offset (now (buf .entry)) .answer)) × (now (buf .exit) ≡ rules.read 512 (now (image .entry)) handle offset (now (buf .entry)) .buffer) ⌝ }
+pub extern "C" fn tfs_write(image: &mut [u8], name: &[u8], offset: u32, buf: &[u8]) -> TfsResult
+    ensures { λ r. ⌜ (r ≡ resultOf (rules.write 512 (now (image .entry)) (now (name .entry)) offset (now (buf .entry)) .answer)) × (now (image .exit) ≡ rules.write 512 (now (image .entry)) (now (name .entry)) offset (now (buf .entry)) .image) ⌝ }
 {
-    of_answer(tfs::read(image, handle, offset, buf))
-}
-
-// Writes into the file from the offset on, as far as it reaches; the value is the count.
-#[no_mangle]
-pub extern "C" fn tfs_write(image: &mut [u8], handle: u32, offset: u32, buf: &[u8]) -> TfsResult
-    ensures { λ r. ⌜ (r ≡ resultOf (rules.write 512 (now (image .entry)) handle offset (now (buf .entry)) .answer)) × (now (image .exit) ≡ rules.write 512 (now (image .entry)) handle offset (now (buf .entry)) .image) ⌝ }
-{
-    of_answer(tfs::write(image, handle, offset, buf))
+    of_answer(tfs::write(image, name, offset, buf))
 }
 
 // The value is 512 times the free blocks.

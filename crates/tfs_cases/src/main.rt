@@ -63,19 +63,17 @@ fn listed(image: &[u8], slot: u32) -> Outcome {
 
 // The requests by their numbers in the packed form. No table has the refusal of an unknown one.
 fn request(given: Given, name: &[u8], buf: &mut [u8], image: &mut [u8]) -> Outcome {
-    let first = given.first;
-    let second = given.second;
+    let number = given.number;
     let request = given.request;
     match request {
         1 => of_checked(tfs::check(image)),
         2 => of_done(tfs::format(image, name)),
-        3 => of_answer(tfs::open(image, name)),
-        4 => of_answer(tfs::create(image, name, first)),
-        5 => of_done(tfs::remove(image, name)),
-        6 => of_answer(tfs::read(image, first, second, buf)),
-        7 => of_answer(tfs::write(image, first, second, buf)),
-        8 => listed(image, first),
-        9 => of_answer(tfs::free_bytes(image)),
+        3 => of_answer(tfs::create(image, name, number)),
+        4 => of_done(tfs::remove(image, name)),
+        5 => of_answer(tfs::read(image, name, number, buf)),
+        6 => of_answer(tfs::write(image, name, number, buf)),
+        7 => listed(image, number),
+        8 => of_answer(tfs::free_bytes(image)),
         _ => refused(1000, 0),
     }
 }
@@ -102,13 +100,13 @@ fn start(name: &[u8; 16], n: usize) -> &[u8] {
 
 // Whether a case comes out as expected. Its text is the name that a slot's listing has, and empty for the other requests.
 fn compare(k: u32, given: Given, got: Outcome, image: &[u8], buf: &[u8]) -> bool {
-    if given.request != 8 {
+    if given.request != 7 {
         return packed::cases::comes_out(k, given.request, got, b"", image, buf);
     }
-    let listing = tfs::list(image, given.first);
+    let listing = tfs::list(image, given.number);
     let entry = listing.entry;
     let name = listing.name;
-    packed::cases::comes_out(k, 8, got, start(&name, name_length(entry)), image, buf)
+    packed::cases::comes_out(k, 7, got, start(&name, name_length(entry)), image, buf)
 }
 
 // Case number k, read into what is lent.

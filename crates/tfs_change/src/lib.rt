@@ -1,8 +1,10 @@
-// Open, create and remove on a consistent volume: requests by a file's name.
+// Create and remove on a consistent volume.
 ghost use mathlib.Core.Path.{_≡_};
 ghost use Rattle.tfs_spec.specs.Check.{consistent, check};
-ghost use Rattle.tfs_spec.specs.Requests.{openStep, createStep, removeStep};
+ghost use Rattle.tfs_spec.specs.Requests.{createStep, removeStep};
 ghost use Rattle.tfs_steps.specs.Told.{stepTold, removeTold, StepFits};
+use tfs_dir::lookup::Lookup;
+use tfs_dir::lookup::look_up;
 use tfs_dir::names::name_allowed;
 use tfs_dir::volume::free_slot;
 use tfs_dir::volume::inode_at;
@@ -17,21 +19,6 @@ use tfs_map::volume::free_blocks;
 use tfs_steps::Step;
 use tfs_steps::erase::erase_file;
 use tfs_steps::place::place_file;
-
-// The handle of the file with this name.
-pub fn open_step(image: &[u8], name: &[u8]) -> Step
-    requires { ⌜ check 512 (now image) ≡ consistent ⌝ }
-    ensures { λ r. ⌜ (stepTold r ≡ openStep 512 (now (image .entry)) (now (name .entry))) × StepFits r ⌝ }
-{
-    if !name_allowed(name) {
-        return Step::Refused(8);
-    }
-    let s = slot_of(image, name);
-    if SLOTS <= s {
-        return Step::Refused(13);
-    }
-    Step::Granted(inode_at(image, s))
-}
 
 // A file of this name and size, all zeros.
 pub fn create_step(image: &mut [u8], name: &[u8], size: u32) -> Step
@@ -66,16 +53,14 @@ pub fn remove_step(image: &mut [u8], name: &[u8]) -> Step
     requires { ⌜ check 512 (now image) ≡ consistent ⌝ }
     ensures { λ r. ⌜ (removeTold r ≡ removeStep 512 (now (image .entry)) (now (name .entry)) .answer) × (now (image .exit) ≡ removeStep 512 (now (image .entry)) (now (name .entry)) .image) × StepFits r ⌝ }
 {
-    if !name_allowed(name) {
-        return Step::Refused(8);
+    match look_up(image, name) {
+        Lookup::Refused(n) => Step::Refused(n),
+        Lookup::InSlot(s) => {
+            let b = inode_at(image, s);
+            let mut list = [0u32; FILE_BLOCKS];
+            let k = file_blocks(image, b as usize, &mut list);
+            erase_file(image, s, &list[0..k]);
+            Step::Granted(0)
+        }
     }
-    let s = slot_of(image, name);
-    if SLOTS <= s {
-        return Step::Refused(13);
-    }
-    let b = inode_at(image, s);
-    let mut list = [0u32; FILE_BLOCKS];
-    let k = file_blocks(image, b as usize, &mut list);
-    erase_file(image, s, &list[0..k]);
-    Step::Granted(0)
 }

@@ -3,17 +3,14 @@ use mathlib.Core.Path.{_≡_, refl}
 use mathlib.Core.Bool.{Bool, not, _&&_, _||_}
 use Prim.Native.Nat.{ℕ}
 use mathlib.Core.List.{List}
-use lib.Dec.{ltb, eqb}
+use lib.Dec.{ltb}
 use Rattle.lists.specs.Lists.{least}
-use Rattle.tfs_spec.specs.Layout.{slot, slotInode, slotName, slotFree, slotUsed, sameName, View, free, used, inode, name, slotOf, slotWith, freeSlot}
+use Rattle.tfs_spec.specs.Layout.{slot, slotName, slotFree, slotUsed, sameName, View, free, used, name, slotOf, freeSlot}
 use Rattle.tfs_spec.specs.Check.{repeats, badSlot}
 
--- whether slot s is taken, under this name or with this inode
+-- whether slot s is taken, under this name
 unfoldable pub slotHolds : List ℕ → List ℕ → ℕ → Bool
 slotHolds dir nm s = not (slotFree (slot dir s)) && sameName (slotName (slot dir s)) nm
-
-unfoldable pub slotHandles : List ℕ → ℕ → ℕ → Bool
-slotHandles dir h s = not (slotFree (slot dir s)) && eqb (slotInode (slot dir s)) h
 
 -- whether slot s repeats the name of a lower slot
 unfoldable pub slotRepeats : List ℕ → ℕ → Bool
@@ -23,12 +20,9 @@ slotRepeats dir s = ltb (least (λ t. not (slotFree (slot dir t)) && sameName (s
 unfoldable pub slotBad : ℕ → List ℕ → ℕ → Bool
 slotBad n dir s = not (slotFree (slot dir s)) && (not (slotUsed n (slot dir s)) || slotRepeats dir s)
 
--- the slot of a name, of a handle, and the lowest free slot; 25 where there is none
+-- the slot of a name, and the lowest free slot; 25 where there is none
 unfoldable pub findName : List ℕ → List ℕ → ℕ
 findName dir nm = least (λ s. not (slotFree (slot dir s)) && sameName (slotName (slot dir s)) nm) 25
-
-unfoldable pub findHandle : List ℕ → ℕ → ℕ
-findHandle dir h = least (λ s. not (slotFree (slot dir s)) && eqb (slotInode (slot dir s)) h) 25
 
 unfoldable pub findFree : List ℕ → ℕ
 findFree dir = least (λ s. slotFree (slot dir s)) 25
@@ -44,10 +38,6 @@ first-bad v = λ i. least (λ s. bad-slot v s i) 25
 pub slot-of : (v : View) (nm : List ℕ) → slotOf 512 v nm ≡ findName (v .dir) nm
 unfolding slotOf findName free name
 slot-of v nm = refl
-
-pub slot-with : (v : View) (h : ℕ) → slotWith 512 v h ≡ findHandle (v .dir) h
-unfolding slotWith findHandle free inode
-slot-with v h = refl
 
 pub free-slot : (v : View) → freeSlot 512 v ≡ findFree (v .dir)
 unfolding freeSlot findFree free

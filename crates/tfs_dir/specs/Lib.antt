@@ -1,3 +1,4 @@
 pub mod Slots
 pub mod Find
 pub mod Entry
+pub mod Lookup

@@ -3,10 +3,9 @@ ghost use mathlib.Core.Path.{_≡_};
 ghost use Prim.Native.Nat.{_<_, _≤_};
 ghost use lib.ListN.{length};
 ghost use Rattle.lists.specs.Lists.{least};
-ghost use Rattle.tfs_dir.specs.Find.{slotHolds, slotHandles, slotRepeats, slotBad, findName, findHandle, findFree};
+ghost use Rattle.tfs_dir.specs.Find.{slotHolds, slotRepeats, slotBad, findName, findFree};
 use crate::slots::name_length;
 use crate::slots::slot_free;
-use crate::slots::slot_inode;
 use crate::slots::slot_named;
 use crate::slots::slot_used;
 use tfs_layout::NAME_AT;
@@ -22,17 +21,6 @@ pub fn slot_holds(dir: &[u8], name: &[u8], s: usize) -> bool
         return false;
     }
     slot_named(dir, s, name)
-}
-
-// Whether slot s is taken, with the inode h.
-pub fn slot_handles(dir: &[u8], h: u32, s: usize) -> bool
-    requires { ⌜ (length (now dir) ≡ 512) × (s < 25) ⌝ }
-    ensures { λ r. ⌜ r ≡ slotHandles (now (dir .entry)) h s ⌝ }
-{
-    if slot_free(dir, s) {
-        return false;
-    }
-    slot_inode(dir, s) == h
 }
 
 // The first slot below n that is taken under this name, or n.
@@ -96,21 +84,6 @@ pub fn find_name(dir: &[u8], name: &[u8]) -> usize
     ensures { λ r. ⌜ (r ≡ findName (now (dir .entry)) (now (name .entry))) × (r ≤ 25) ⌝ }
 {
     first_named(dir, name, SLOTS)
-}
-
-// The slot with the inode h, or 25.
-pub fn find_handle(dir: &[u8], h: u32) -> usize
-    requires { ⌜ length (now dir) ≡ 512 ⌝ }
-    ensures { λ r. ⌜ (r ≡ findHandle (now (dir .entry)) h) × (r ≤ 25) ⌝ }
-{
-    let mut s = 0;
-    while s < SLOTS {
-        if slot_handles(dir, h, s) {
-            return s;
-        }
-        s += 1;
-    }
-    SLOTS
 }
 
 // The first free slot, or 25.

@@ -4,3 +4,4 @@ pub mod slots; // slots.rt: one slot
 pub mod find; // find.rt: searches over the slots
 pub mod write; // write.rt: slots filled and cleared
 pub mod volume; // volume.rt: the directory in its place in the image
+pub mod lookup; // lookup.rt: the lookup of a name

@@ -2,9 +2,8 @@
 ghost use mathlib.Core.Path.{_≡_};
 ghost use Prim.Native.Nat.{_<_, _≤_};
 ghost use lib.ListN.{length};
-ghost use Rattle.tfs_spec.specs.Layout.{view, inode, slotOf, slotWith, freeSlot};
+ghost use Rattle.tfs_spec.specs.Layout.{view, inode, slotOf, freeSlot};
 use crate::find::find_free;
-use crate::find::find_handle;
 use crate::find::find_name;
 use crate::slots::slot_inode;
 use tfs_layout::dir_of;
@@ -23,14 +22,6 @@ pub fn slot_of(image: &[u8], name: &[u8]) -> usize
     ensures { λ r. ⌜ r ≡ slotOf 512 (view 512 (now (image .entry))) (now (name .entry)) ⌝ }
 {
     find_name(dir_of(image), name)
-}
-
-// The slot with the inode h, or how many slots there are.
-pub fn slot_with(image: &[u8], h: u32) -> usize
-    requires { ⌜ 1536 ≤ length (now image) ⌝ }
-    ensures { λ r. ⌜ r ≡ slotWith 512 (view 512 (now (image .entry))) h ⌝ }
-{
-    find_handle(dir_of(image), h)
 }
 
 // The first free slot, or how many slots there are.

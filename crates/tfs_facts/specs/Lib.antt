@@ -11,4 +11,5 @@ pub mod Views
 pub mod Entries
 pub mod FreshMap
 pub mod Names
+pub mod Lookups
 pub mod Chosen

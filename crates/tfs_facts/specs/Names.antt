@@ -1,4 +1,4 @@
--- The slot of a name and of a handle, the slots of a changed directory, and the blocks that a file claims.
+-- The slot of a name, the slots of a changed directory, and the blocks that a file claims.
 use mathlib.Core.Path.{_≡_, refl, sym, ap, _∙_, subst}
 use mathlib.Core.Logic.{_≢_, inl, inr, ⊎-elim}
 use mathlib.Core.Bool.{Bool, not, _&&_}
@@ -7,15 +7,15 @@ use mathlib.Core.List.{List, [], _∷_}
 use native.Mathlib.Omega.{arith}
 use native.Mathlib.Nat.{zero-add}
 use lib.ListN.{length}
-use lib.Dec.{T, eqb, eqb→eq, T-not, not-T}
+use lib.Dec.{T, T-not, not-T}
 use Rattle.lists.specs.Lists.{sameList, least, table, In}
-use Rattle.list_laws.specs.Test.{same-eq, same-refl, cond-no, and-of, and-l, and-r, eqb-of}
+use Rattle.list_laws.specs.Test.{same-eq, same-refl, cond-no, and-of, and-l, and-r}
 use Rattle.list_laws.specs.Least.{least-hit, least-none, least-is}
 use Rattle.list_laws.specs.Table.{length-table, getD-table}
 use Rattle.list_laws.specs.Part.{length-with, part-with, part-with-other}
-use Rattle.tfs_spec.specs.Layout.{slots, need, slot, setSlot, sameName, View, free, inode, name, size, number, slotOf, slotWith, freeSlot}
+use Rattle.tfs_spec.specs.Layout.{slots, need, slot, setSlot, sameName, View, free, inode, name, size, number, slotOf, freeSlot}
 use Rattle.tfs_spec.specs.Check.{fileClaims}
-use Rattle.tfs_spec.specs.Consistent.{File, Owner, inodeOf, contentOf, Owns, Sound}
+use Rattle.tfs_spec.specs.Consistent.{File, Owner, inodeOf, contentOf, Owns}
 use Rattle.tfs_facts.specs.Claims.{slotIn}
 use Rattle.tfs_facts.specs.CheckMeans.{same-sym}
 use Rattle.tfs_facts.specs.Sizes.{apart-blocks}
@@ -53,25 +53,6 @@ module _ (B : ℕ) (v : View) (nm : List ℕ) where
       (λ i l. not-T (g i) (λ t.
       let fi : File B v i = record { slot = omega (arith, f .slot); taken = and-l (not (free v i)) _ t } in
       let z : i ≡ s = apart i s fi f (name-trans (name v i) nm (name v s) (and-r (not (free v i)) _ t) (same-sym (name v s) nm e)) in
-      omega arith))
-
--- ---- the slot of a handle
-module _ (B : ℕ) (v : View) (h : ℕ) where
-  pub handle-hit : slotWith B v h < slots B → File B v (slotWith B v h) × (inode v (slotWith B v h) ≡ h)
-  unfolding slotWith
-  handle-hit l =
-      let f : ℕ → Bool = λ s. not (free v s) && eqb (inode v s) h in
-      let t : T (f (least f (slots B))) = least-hit f (slots B) l in
-      (record { slot = l; taken = and-l (not (free v (least f (slots B)))) _ t }, eqb→eq (inode v (least f (slots B))) h (and-r (not (free v (least f (slots B)))) _ t))
-
-  pub handle-is : Sound B v → (s : ℕ) → File B v s → inode v s ≡ h → slotWith B v h ≡ s
-  unfolding slotWith
-  handle-is ok s f e =
-      let g : ℕ → Bool = λ t. not (free v t) && eqb (inode v t) h in
-      least-is g (slots B) s (f .slot) (and-of (not (free v s)) (eqb (inode v s) h) (f .taken) (eqb-of e))
-      (λ i l. not-T (g i) (λ t.
-      let fi : File B v i = record { slot = omega (arith, f .slot); taken = and-l (not (free v i)) _ t } in
-      let z : i ≡ s = ap slotIn (ok .once h (inodeOf i) (inodeOf s) (fi, eqb→eq (inode v i) h (and-r (not (free v i)) _ t)) (f, e)) in
       omega arith))
 
 -- ---- the lowest free slot

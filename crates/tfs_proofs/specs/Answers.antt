@@ -1,5 +1,6 @@
--- The number of every refusal is from 1 to 15, and from 8 on its place is 0.
+-- The number of every refusal is from 1 to 15, and from 8 on its place is 0; 14 is in no table but list's.
 use mathlib.Core.Path.{_≡_, refl}
+use mathlib.Core.Logic.{_≢_}
 use mathlib.Core.List.{List}
 use Prim.Native.Nat.{ℕ, _≤_}
 use native.Mathlib.Omega.{arith}
@@ -16,36 +17,57 @@ Numbered unused = Unit {0}
 Numbered (file nm i z) = Unit {0}
 Numbered (refused num p) = (1 ≤ num) × (num ≤ 15) × (8 ≤ num → p ≡ 0)
 
+-- and not 14
+abbrev pub Other : Answer → Type 0
+Other done = Unit {0}
+Other (value x) = Unit {0}
+Other unused = Unit {0}
+Other (file nm i z) = Unit {0}
+Other (refused num p) = ((1 ≤ num) × (num ≤ 15) × (8 ≤ num → p ≡ 0)) × (num ≢ 14)
+
+pub other-numbered : (a : Answer) → Other a → Numbered a
+other-numbered done w = tt
+other-numbered (value x) w = tt
+other-numbered unused w = tt
+other-numbered (file nm i z) w = tt
+other-numbered (refused num p) w = w .0
+
 -- ---- each table
-pub broken-numbered : (B : ℕ) (img : List ℕ) (num p : ℕ) → Broken B img num p → Numbered (refused num p)
-broken-numbered B img _ _ (short h) = (omega arith, omega arith, λ _. refl)
-broken-numbered B img _ _ (unmagical h) = (omega arith, omega arith, λ _. refl)
-broken-numbered B img _ _ (unlabelled h) = (omega arith, omega arith, λ _. refl)
-broken-numbered B img _ _ (malformed s f h) = (omega arith, omega arith, λ l. absurd (omega arith))
-broken-numbered B img _ _ (repeated s t f g l e) = (omega arith, omega arith, λ l. absurd (omega arith))
-broken-numbered B img _ _ (oversized s f h) = (omega arith, omega arith, λ l. absurd (omega arith))
-broken-numbered B img _ _ (misnumbered s k f l w) = (omega arith, omega arith, λ l. absurd (omega arith))
-broken-numbered B img _ _ (twice b o q l d x y) = (omega arith, omega arith, λ l. absurd (omega arith))
-broken-numbered B img _ _ (unmarked b l n w) = (omega arith, omega arith, λ l. absurd (omega arith))
-broken-numbered B img _ _ (stray b l t w) = (omega arith, omega arith, λ l. absurd (omega arith))
+-- a refusal of the check, with its place, and one of the request
+fault : (num p : ℕ) → 1 ≤ num → num ≤ 7 → Other (refused num p)
+fault num p l h = ((omega arith, omega arith, λ k. absurd (omega arith)), λ e. omega arith)
 
-pub find-numbered : (B : ℕ) (v : View) (nm : List ℕ) (grant : ℕ → Answer) → ((s : ℕ) → Numbered (grant s)) → (a : Answer) → FindRule B v nm grant a → Numbered a
-find-numbered B v nm grant g _ (rule.misnamed h) = (omega arith, omega arith, λ _. refl)
-find-numbered B v nm grant g _ (rule.absent r none) = (omega arith, omega arith, λ _. refl)
-find-numbered B v nm grant g _ (rule.found s r st) = g s
+refusal : (num : ℕ) → 1 ≤ num → num ≤ 15 → num ≢ 14 → Other (refused num 0)
+refusal num l h d = ((l, h, λ _. refl), d)
 
-pub create-numbered : (B : ℕ) (v : View) (nm : List ℕ) (z : ℕ) (a : Answer) → CreateRule B v nm z a → Numbered a
-create-numbered B v nm z _ (rule.unnamed h) = (omega arith, omega arith, λ _. refl)
-create-numbered B v nm z _ (rule.oversized r h) = (omega arith, omega arith, λ _. refl)
-create-numbered B v nm z _ (rule.standing s r k st) = (omega arith, omega arith, λ _. refl)
-create-numbered B v nm z _ (rule.full r k f none) = (omega arith, omega arith, λ _. refl)
-create-numbered B v nm z _ (rule.cramped s r k f w h) = (omega arith, omega arith, λ _. refl)
-create-numbered B v nm z _ (rule.created s h r k f w room low) = tt
+pub broken-other : (B : ℕ) (img : List ℕ) (num p : ℕ) → Broken B img num p → Other (refused num p)
+broken-other B img _ _ (short h) = fault 1 0 (omega arith) (omega arith)
+broken-other B img _ _ (unmagical h) = fault 2 0 (omega arith) (omega arith)
+broken-other B img _ _ (unlabelled h) = fault 3 0 (omega arith) (omega arith)
+broken-other B img _ _ (malformed s f h) = fault 4 s (omega arith) (omega arith)
+broken-other B img _ _ (repeated s t f g l w) = fault 4 s (omega arith) (omega arith)
+broken-other B img _ _ (oversized s f h) = fault 5 s (omega arith) (omega arith)
+broken-other B img _ _ (misnumbered s k f l w) = fault 5 s (omega arith) (omega arith)
+broken-other B img _ _ (twice b o q l d x y) = fault 6 b (omega arith) (omega arith)
+broken-other B img _ _ (unmarked b l n w) = fault 7 b (omega arith) (omega arith)
+broken-other B img _ _ (stray b l t w) = fault 7 b (omega arith) (omega arith)
 
-pub transfer-numbered : (B : ℕ) (v : View) (h o len : ℕ) (a : Answer) → TransferRule B v h o len a → Numbered a
-transfer-numbered B v h o len _ (rule.unhandled none) = (omega arith, omega arith, λ _. refl)
-transfer-numbered B v h o len _ (rule.beyond s f l) = (omega arith, omega arith, λ _. refl)
-transfer-numbered B v h o len _ (rule.moved s f l) = tt
+pub find-other : (B : ℕ) (v : View) (nm : List ℕ) (own : ℕ → Answer → Type 0) → ((s : ℕ) (a : Answer) → own s a → Other a) → (a : Answer) → FindRule B v nm own a → Other a
+find-other B v nm own g _ (rule.misnamed h) = refusal 8 (omega arith) (omega arith) (λ e. omega arith)
+find-other B v nm own g _ (rule.absent r none) = refusal 13 (omega arith) (omega arith) (λ e. omega arith)
+find-other B v nm own g _ (rule.found s a r st w) = g s a w
+
+pub create-other : (B : ℕ) (v : View) (nm : List ℕ) (z : ℕ) (a : Answer) → CreateRule B v nm z a → Other a
+create-other B v nm z _ (rule.unnamed h) = refusal 8 (omega arith) (omega arith) (λ e. omega arith)
+create-other B v nm z _ (rule.oversized r h) = refusal 9 (omega arith) (omega arith) (λ e. omega arith)
+create-other B v nm z _ (rule.standing s r k st) = refusal 10 (omega arith) (omega arith) (λ e. omega arith)
+create-other B v nm z _ (rule.full r k f none) = refusal 11 (omega arith) (omega arith) (λ e. omega arith)
+create-other B v nm z _ (rule.cramped s r k f w h) = refusal 12 (omega arith) (omega arith) (λ e. omega arith)
+create-other B v nm z _ (rule.created s h r k f w room low) = tt
+
+pub transfer-other : (v : View) (o len s : ℕ) (a : Answer) → TransferRule v o len s a → Other a
+transfer-other v o len s _ (rule.beyond l) = refusal 15 (omega arith) (omega arith) (λ e. omega arith)
+transfer-other v o len s _ (rule.moved l) = tt
 
 pub list-numbered : (B : ℕ) (v : View) (s : ℕ) (a : Answer) → ListRule B v s a → Numbered a
 list-numbered B v s _ (rule.outside l) = (omega arith, omega arith, λ _. refl)

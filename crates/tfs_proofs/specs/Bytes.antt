@@ -8,13 +8,14 @@ use native.Mathlib.Nat.{mul-le-mul-right}
 use lib.ListN.{length, getD, set, take, drop, List·getD-eq-default}
 use Rattle.lists.specs.Lists.{table, zeros, padTo, bytes4, words, part, withPart, storeAt}
 use Rattle.list_laws.specs.Bits.{with-lt}
-use Rattle.tfs_spec.specs.Layout.{BlockSize, maxSize, blocks, block, setBlock, magic, setBit, setBits, setSlot, entry, inodeBlock, View, view, size, slotOf, slotWith, freeSlot, place}
+use Rattle.tfs_spec.specs.Layout.{BlockSize, maxSize, blocks, block, setBlock, magic, setBit, setBits, setSlot, entry, inodeBlock, View, view, size, slotOf, freeSlot, place}
 use Rattle.tfs_spec.specs.Check.{Verdict, consistent, broken, check, fileClaims}
-use Rattle.tfs_spec.specs.Requests.{Answer, counted, transferView, granted, refuse, checked, Store, storeAll, format, formatStores, zeroStores, placeStores, createStores, chosen, create, removeStores, remove, readBuffer, read, write}
+use Rattle.tfs_spec.specs.Requests.{Answer, Outcome, counted, granted, refuse, checked, Store, storeAll, format, formatStores, zeroStores, placeStores, createStores, chosen, create, removeStores, remove, readBuffer, read, write}
 use Rattle.tfs_spec.specs.Consistent.{Bytes}
 use Rattle.tfs_facts.specs.CheckMeans.{check-means}
 use Rattle.tfs_facts.specs.Views.{view-n, view-map, view-dir}
 use Rattle.tfs_facts.specs.Chosen.{CreateGrant, Choice, choice}
+use Rattle.tfs_proofs.specs.Transfers.{slotFor, transferView, read-as}
 use Rattle.tfs_proofs.specs.Numbers.{four-bytes}
 use Rattle.tfs_proofs.specs.Formats.{by-format}
 use Rattle.tfs_proofs.specs.Kept.{by-create, by-remove, by-write}
@@ -175,24 +176,25 @@ module _ (B : ℕ) (sz : BlockSize B) (img : List ℕ) (bytes : Bytes img) where
         (all-bits (view B img .map) 0 (fileClaims B (view B img) (slotOf B (view B img) nm)) (omega arith) map-all, tt),
       ) img-all))
 
-  pub write-bytes : (h o : ℕ) (bs : List ℕ) → Bytes bs → Bytes (write B img h o bs .image)
+  pub write-bytes : (nm : List ℕ) (o : ℕ) (bs : List ℕ) → Bytes bs → Bytes (write B img nm o bs .image)
   unfolding request putOf
-  write-bytes h o bs k =
+  write-bytes nm o bs k =
       let v : View = view B img in
-      let s : ℕ = slotWith B v h in
+      let s : ℕ = slotFor B v nm in
       let put : List ℕ = take (size v s - o) bs in
-      by-write B img h o bs Bytes bytes
-      (λ e. subst Bytes (sym (request-image B img e (wr h o bs))) (of-all (storeAt (place B v s) img o put) (all-store (place B v s) put img o (all-take (size v s - o) bs (all-of bs k)) img-all)))
+      by-write B img nm o bs Bytes bytes
+      (λ e. subst Bytes (sym (request-image B img e (wr nm o bs))) (of-all (storeAt (place B v s) img o put) (all-store (place B v s) put img o (all-take (size v s - o) bs (all-of bs k)) img-all)))
 
-  pub read-bytes : (h o : ℕ) (buf : List ℕ) → Bytes buf → Bytes (read B img h o buf .buffer)
-  unfolding read readBuffer
-  read-bytes h o buf k =
+  pub read-bytes : (nm : List ℕ) (o : ℕ) (buf : List ℕ) → Bytes buf → Bytes (read B img nm o buf .buffer)
+  unfolding readBuffer
+  read-bytes nm o buf k =
       let v : View = view B img in
-      let s : ℕ = slotWith B v h in
+      let s : ℕ = slotFor B v nm in
       let c : ℕ = counted v s o (length buf) in
       let got : List ℕ = table (λ p. getD img (place B v s p) 0) o c in
-      by-read (check B img) (transferView B v h o (length buf)) img (got ++ drop c buf) buf Bytes k
-      (of-all (got ++ drop c buf) (all-append got (drop c buf) (all-table (λ p. getD img (place B v s p) 0) o c (λ p. bytes (place B v s p))) (all-drop c buf (all-of buf k))))
+      subst (λ (x : Outcome). Bytes (x .buffer)) (sym (read-as B img nm o buf))
+      (by-read (check B img) (transferView B v nm o (length buf)) img (got ++ drop c buf) buf Bytes k
+      (of-all (got ++ drop c buf) (all-append got (drop c buf) (all-table (λ p. getD img (place B v s p) 0) o c (λ p. bytes (place B v s p))) (all-drop c buf (all-of buf k)))))
 
 -- sizes fit into four bytes
 max-small : (B : ℕ) → B ≤ 65536 → maxSize B < 4294967296

@@ -1,22 +1,22 @@
 -- A granted create, then a remove of that name, gives directory and map back byte for byte.
 use mathlib.Core.Path.{_≡_, sym, ap, ap₂, _∙_, subst}
 use mathlib.Core.Logic.{_≢_}
-use mathlib.Core.Bool.{not}
 use Prim.Native.Nat.{ℕ, suc, _+_, _*_, _≤_, _<_}
 use mathlib.Core.List.{List, [], _∷_}
 use native.Mathlib.Omega.{arith}
 use lib.ListN.{length, getD, length-replicate, getD-replicate}
 use lib.Seq.{ext-getD}
-use lib.Dec.{T, ltb, lt→ltb}
+use lib.Dec.{T}
 use Rattle.lists.specs.Lists.{zeros, allZero, table, part, withPart}
-use Rattle.list_laws.specs.Test.{zero-bytes, cond-no, yes-yes}
+use Rattle.list_laws.specs.Test.{zero-bytes}
 use Rattle.list_laws.specs.Table.{table-cong, table-getD}
 use Rattle.list_laws.specs.Part.{length-part, with-with, with-same}
 use Rattle.tfs_spec.specs.Layout.{BlockSize, slots, block, slot, setSlot, setBits, mapBit, need, entry, slotFree, nameAllowed, View, view, free, size, number, slotOf, freeSlot}
 use Rattle.tfs_spec.specs.Check.{fileClaims}
 use Rattle.tfs_spec.specs.Consistent.{Consistent}
+use Rattle.tfs_facts.specs.Lookups.{lookup-there}
 use Rattle.tfs_facts.specs.CheckMeans.{check-means}
-use Rattle.tfs_spec.specs.Requests.{Answer, done, refused, granted, Outcome, storeAll, create, createStores, chosen, removeView, removeStores, remove, stored}
+use Rattle.tfs_spec.specs.Requests.{Answer, done, refused, granted, Outcome, storeAll, create, createStores, chosen, Lookup, looked, removeView, removeStores, remove, stored}
 use Rattle.tfs_spec.specs.Laws.{BackLaw}
 use Rattle.tfs_facts.specs.Views.{view-dir, view-map, length-dir}
 use Rattle.tfs_facts.specs.MapBits.{in-at, Distinct, setBits-undo}
@@ -121,8 +121,7 @@ module _ (B : ℕ) (sz : BlockSize B) (img : List ℕ) (ok : Consistent B img) (
 remove-yes : (B : ℕ) (v : View) (nm : List ℕ) → T (nameAllowed nm) → slotOf B v nm < slots B → removeView B v nm ≡ done
 unfolding removeView
 remove-yes B v nm t h =
-    cond-no (not (nameAllowed nm)) (refused 8 0) _ (yes-yes (nameAllowed nm) t)
-    ∙ cond-no (not (ltb (slotOf B v nm) (slots B))) (refused 13 0) done (yes-yes (ltb (slotOf B v nm) (slots B)) (lt→ltb (slotOf B v nm) (slots B) h))
+    ap (λ (x : Lookup). looked x refused (λ s. done)) (lookup-there B v nm t h)
 
 pub back-law : (B : ℕ) → BlockSize B → (img : List ℕ) → Consistent B img → (nm : List ℕ) (z : ℕ) → T (granted (create B img nm z .answer)) → BackLaw B img nm z
 back-law B sz img ok nm z g =

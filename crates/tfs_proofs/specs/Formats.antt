@@ -1,4 +1,4 @@
--- Format leaves a consistent volume with no file in it, in which every handle is refused, and changes nothing past block 2.
+-- Format leaves a consistent volume with no file in it, and changes nothing past block 2.
 use mathlib.Core.Path.{_≡_, refl, sym, ap, _∙_, subst}
 use mathlib.Core.Logic.{inl, ⊎-elim}
 use mathlib.Core.Bool.{not, _&&_}
@@ -24,7 +24,6 @@ use Rattle.tfs_facts.specs.Views.{view-head, view-map, view-dir}
 use Rattle.tfs_facts.specs.Stores.{Fits, length-storeAll, stored-first, fits-up, stored-past, stored-at}
 use Rattle.tfs_facts.specs.Entries.{length-pad}
 use Rattle.tfs_proofs.specs.Others.{stands-not}
-use Rattle.tfs_spec.specs.Answers.{Handled}
 use Rattle.tfs_facts.specs.MapBits.{length-setBits}
 use Rattle.tfs_facts.specs.FreshMap.{zeros-byte, formatMap, marked-low, low-marked}
 
@@ -186,11 +185,9 @@ module _ {B : ℕ} (size : BlockSize B) (img label : List ℕ) where
       by-format B img label (λ o. T (granted (o .answer)) → (nm : List ℕ) → contents B (o .image) nm ≡ none) (λ _ g. absurd g) (λ _ g. absurd g)
       (λ h t _. formatted-empty B size img label h)
 
-  -- so no handle means a file
-  pub format-handles : T (granted (format B img label .answer)) → (h s : ℕ) → Handled B (view B (format B img label .image)) h s → ⊥
-  format-handles =
-      by-format B img label (λ o. T (granted (o .answer)) → (h s : ℕ) → Handled B (view B (o .image)) h s → ⊥) (λ _ g. absurd g) (λ _ g. absurd g)
-      (λ k t _ h s f. T-not (free (view B (formatted B size img label k)) s) (f .file .taken) (formatted-free B size img label k s))
+  pub format-free : T (granted (format B img label .answer)) → (s : ℕ) → T (free (view B (format B img label .image)) s)
+  format-free =
+      by-format B img label (λ o. T (granted (o .answer)) → (s : ℕ) → T (free (view B (o .image)) s)) (λ _ g. absurd g) (λ _ g. absurd g) (λ h t _ s. formatted-free B size img label h s)
 
   -- "Later blocks are untouched", and so are the bytes past the last block
   pub format-past : (q : ℕ) → 3 * B ≤ q → getD (format B img label .image) q 0 ≡ getD img q 0

@@ -1,9 +1,9 @@
 -- Which answer each request gives, in plain facts: one table for each request, with a line for each of its answers.
 -- Each table holds of an answer exactly when the request gives it. The check comes first, so the volume is consistent; of format it is any image.
-use mathlib.Core.Path.{_≡_, sym, ap, _∙_, subst}
+use mathlib.Core.Path.{_≡_, refl, sym, ap, _∙_, subst}
 use mathlib.Core.Logic.{_≢_, _↔_, ⊎-elim}
 use mathlib.Core.Bool.{Bool, true, false, not, cond}
-use Prim.Native.Nat.{ℕ, _+_, _-_, _*_, _≤_, _<_, min}
+use Prim.Native.Nat.{ℕ, _+_, _-_, _*_, _≤_, _<_}
 use mathlib.Core.List.{List, []}
 use native.Mathlib.Omega.{arith}
 use native.Mathlib.Decide.{decLt}
@@ -14,18 +14,19 @@ use lib.Dec.{T, leb, ltb, leb→le, ltb→lt, nltb→le, le→leb, lt→ltb, eqb
 use Rattle.list_laws.specs.Test.{cond-yes, cond-no, and-of, and-l, and-r, not-not, yes-yes, no-false, to-true, eqb-of, neqb-of}
 use Rattle.lists.specs.Lists.{least, zeroAt, firstZero}
 use Rattle.list_laws.specs.Least.{least-hit, least-none, least-below, least-all}
-use Rattle.tfs_spec.specs.Layout.{BlockSize, slots, maxSize, need, mapBit, slot, nameField, labelAllowed, nameAllowed, View, view, free, used, inode, name, size, slotOf, slotWith, freeSlot, freeBlocks}
+use Rattle.tfs_spec.specs.Layout.{BlockSize, slots, maxSize, need, mapBit, slot, nameField, labelAllowed, nameAllowed, View, view, free, used, name, size, slotOf, freeSlot, freeBlocks}
 use Rattle.tfs_spec.specs.Check.{consistent, check, tooShort}
 use Rattle.tfs_spec.specs.Consistent.{Sound, Consistent}
 use Rattle.tfs_facts.specs.Claims.{count-some}
 use Rattle.tfs_facts.specs.CheckMeans.{check-means, same-means, length-field, used-means, name-means}
 use Rattle.tfs_facts.specs.Room.{free-cursor}
-use Rattle.tfs_spec.specs.Requests.{Request, changes, checks, opens, reads, lists, counts, creates, removes, writes, perform, reply, checkAnswer, freeAnswer, Answer, done, value, unused, file, refused, granted, Outcome, refuse, openView, openAnswer, freeFrom, chosen, createView, create, removeView, remove, counted, transferView, read, write, listView, listAnswer, format}
-use Rattle.tfs_spec.specs.Answers.{LabelRule, NameRule, Stands, Fresh, Handled, Vacant, LowestBlock, FindRule, misnamed, absent, found, CreateRule, unnamed, oversized, standing, full, cramped, created, TransferRule, unhandled, beyond, moved, ListRule, outside, vacant, holds, FormatRule, short, unlabelled, formatted, Rule}
+use Rattle.tfs_spec.specs.Requests.{Request, changes, checks, reads, lists, counts, creates, removes, writes, perform, reply, checkAnswer, freeAnswer, Answer, done, value, unused, file, refused, granted, Outcome, refuse, Lookup, lookup, looked, freeFrom, chosen, createView, create, removeView, remove, counted, transferAnswer, read, write, listView, listAnswer, format}
+use Rattle.tfs_spec.specs.Answers.{LabelRule, NameRule, Stands, Fresh, Vacant, LowestBlock, FindRule, misnamed, absent, found, CreateRule, unnamed, oversized, standing, full, cramped, created, TransferRule, beyond, moved, ListRule, outside, vacant, holds, FormatRule, short, unlabelled, formatted, Rule}
 use Rattle.tfs_facts.specs.Views.{length-dir}
-use Rattle.tfs_facts.specs.Names.{slot-hit, slot-miss, slot-is, handle-hit, handle-is, free-hit}
+use Rattle.tfs_facts.specs.Names.{slot-hit, slot-miss, slot-is, free-hit}
 use Rattle.tfs_proofs.specs.Changes.{create-is, remove-is}
-use Rattle.tfs_proofs.specs.Handles.{read-answer, write-answer}
+use Rattle.tfs_facts.specs.Lookups.{lookup-misnamed, lookup-absent, lookup-there, by-lookup}
+use Rattle.tfs_proofs.specs.Transfers.{transferView, read-answer, write-answer}
 
 -- a list with no zero byte has its first zero at its end
 no-zero : (l : List ℕ) → ((i : ℕ) → i < length l → getD l i 0 ≢ 0) → firstZero l ≡ length l
@@ -69,19 +70,6 @@ module _ (B : ℕ) (v : View) (nm : List ℕ) where
 
   pub fresh-high : Fresh B v nm → slots B ≤ slotOf B v nm
   fresh-high none = elim (decLt (slotOf B v nm) (slots B)) [ yes h ↦ absurd (none (slotOf B v nm) (stands-hit h)) | no h ↦ omega arith ]
-
-module _ (B : ℕ) (v : View) (h : ℕ) where
-  pub handled-hit : slotWith B v h < slots B → Handled B v h (slotWith B v h)
-  handled-hit l = let f = handle-hit B v h l in record { file = f .0; number = f .1 }
-
-  pub handled-at : Sound B v → (s : ℕ) → Handled B v h s → slotWith B v h ≡ s
-  handled-at ok s f = handle-is B v h ok s (f .file) (f .number)
-
-  pub handled-low : Sound B v → (s : ℕ) → Handled B v h s → slotWith B v h < slots B
-  handled-low ok s f = subst (λ (x : ℕ). x < slots B) (sym (handled-at ok s f)) (f .file .slot)
-
-  pub unhandled-high : ((s : ℕ) → Handled B v h s → ⊥) → slots B ≤ slotWith B v h
-  unhandled-high none = elim (decLt (slotWith B v h) (slots B)) [ yes l ↦ absurd (none (slotWith B v h) (handled-hit l)) | no l ↦ omega arith ]
 
 module _ (B : ℕ) (v : View) where
   pub vacant-hit : freeSlot B v < slots B → Vacant B v (freeSlot B v)
@@ -132,34 +120,25 @@ by-choice false x y P f g = g tt
 past-name : (nm : List ℕ) → NameRule nm → (x : Answer) → cond (not (nameAllowed nm)) (refused 8 0) x ≡ x
 past-name nm r x = cond-no (not (nameAllowed nm)) (refused 8 0) x (yes-yes (nameAllowed nm) (name-allowed nm .1 r))
 
--- the answer of open, and that of remove, by the slot of the name
-abbrev findAnswer : ℕ → View → List ℕ → (ℕ → Answer) → Answer
-findAnswer B v nm grant =
-    cond (not (nameAllowed nm)) (refused 8 0) (cond (not (ltb (slotOf B v nm) (slots B))) (refused 13 0) (grant (slotOf B v nm)))
-
-module _ (B : ℕ) (v : View) (ok : Sound B v) (nm : List ℕ) (grant : ℕ → Answer) where
-  find-holds : FindRule B v nm grant (findAnswer B v nm grant)
+-- remove, read and write: the lookup, then a step whose own table holds of its answer and of no other
+module _ (B : ℕ) (v : View) (ok : Sound B v) (nm : List ℕ) (own : ℕ → Answer → Type 0) (step : ℕ → Answer) (holds : (s : ℕ) → own s (step s)) (only : (s : ℕ) (a : Answer) → own s a → step s ≡ a) where
+  find-holds : FindRule B v nm own (looked (lookup B v nm) refused step)
   find-holds =
-      by-choice (not (nameAllowed nm)) _ _ (FindRule B v nm grant)
-      (λ t. misnamed (λ r. T-not (nameAllowed nm) t (name-allowed nm .1 r)))
-      (λ t.
-      let r : NameRule nm = name-allowed nm .0 (not-not (nameAllowed nm) t) in
-      by-choice (not (ltb (slotOf B v nm) (slots B))) _ _ (FindRule B v nm grant)
-      (λ u. absent r (stands-miss B v nm (nltb→le (slotOf B v nm) (slots B) u)))
-      (λ u. found (slotOf B v nm) r (stands-hit B v nm (ltb→lt (slotOf B v nm) (slots B) (not-not (ltb (slotOf B v nm) (slots B)) u)))))
+      by-lookup B v nm (λ (x : Lookup). FindRule B v nm own (looked x refused step)) (λ t. misnamed (λ r. T-not (nameAllowed nm) t (name-allowed nm .1 r))) (λ t l. absent (name-allowed nm .0 t) (stands-miss B v nm l))
+      (λ t l. found (slotOf B v nm) (step (slotOf B v nm)) (name-allowed nm .0 t) (stands-hit B v nm l) (holds (slotOf B v nm)))
 
-  find-only : (a : Answer) → FindRule B v nm grant a → findAnswer B v nm grant ≡ a
-  find-only _ (misnamed h) = cond-yes (not (nameAllowed nm)) (refused 8 0) _ (not-T (nameAllowed nm) (λ t. h (name-allowed nm .0 t)))
+  find-only : (a : Answer) → FindRule B v nm own a → looked (lookup B v nm) refused step ≡ a
+  find-only _ (misnamed h) =
+      ap (λ (x : Lookup). looked x refused step) (lookup-misnamed B v nm (not-T (nameAllowed nm) (λ t. h (name-allowed nm .0 t))))
   find-only _ (absent r none) =
-      past-name nm r _
-      ∙ cond-yes (not (ltb (slotOf B v nm) (slots B))) (refused 13 0) _ (le→nltb (slotOf B v nm) (slots B) (fresh-high B v nm none))
-  find-only _ (found s r st) =
-      past-name nm r _
-      ∙ cond-no (not (ltb (slotOf B v nm) (slots B))) (refused 13 0) _ (yes-yes (ltb (slotOf B v nm) (slots B)) (lt→ltb (slotOf B v nm) (slots B) (stands-low B v nm ok s st)))
-      ∙ ap grant (stands-at B v nm ok s st)
+      ap (λ (x : Lookup). looked x refused step) (lookup-absent B v nm (name-allowed nm .1 r) (fresh-high B v nm none))
+  find-only _ (found s a r st w) =
+      ap (λ (x : Lookup). looked x refused step) (lookup-there B v nm (name-allowed nm .1 r) (stands-low B v nm ok s st))
+      ∙ ap step (stands-at B v nm ok s st)
+      ∙ only s a w
 
-  find-rule : (a : Answer) → (findAnswer B v nm grant ≡ a) ↔ FindRule B v nm grant a
-  find-rule a = ((λ e. subst (FindRule B v nm grant) e find-holds), find-only a)
+  find-rule : (a : Answer) → (looked (lookup B v nm) refused step ≡ a) ↔ FindRule B v nm own a
+  find-rule a = ((λ e. subst (FindRule B v nm own) e find-holds), find-only a)
 
 module _ (B : ℕ) (v : View) (ok : Sound B v) (nm : List ℕ) (z : ℕ) where
   create-holds : CreateRule B v nm z (createView B v nm z)
@@ -226,34 +205,16 @@ module _ (B : ℕ) (v : View) (ok : Sound B v) (nm : List ℕ) (z : ℕ) where
   create-rule : (a : Answer) → (createView B v nm z ≡ a) ↔ CreateRule B v nm z a
   create-rule a = ((λ e. subst (CreateRule B v nm z) e create-holds), create-only a)
 
-module _ (B : ℕ) (v : View) (ok : Sound B v) (h o len : ℕ) where
-  transfer-holds : TransferRule B v h o len (transferView B v h o len)
-  unfolding transferView counted
+module _ (v : View) (o len s : ℕ) where
+  transfer-holds : TransferRule v o len s (transferAnswer v s o len)
+  unfolding transferAnswer counted
   transfer-holds =
-      by-choice (not (ltb (slotWith B v h) (slots B))) _ _ (TransferRule B v h o len)
-      (λ t. unhandled (λ s f. omega (arith, handled-low B v h ok s f, nltb→le (slotWith B v h) (slots B) t)))
-      (λ t.
-      let f : Handled B v h (slotWith B v h) = handled-hit B v h (ltb→lt (slotWith B v h) (slots B) (not-not (ltb (slotWith B v h) (slots B)) t)) in
-      by-choice (ltb (size v (slotWith B v h)) o) _ _ (TransferRule B v h o len)
-      (λ u. beyond (slotWith B v h) f (ltb→lt (size v (slotWith B v h)) o u))
-      (λ u. moved (slotWith B v h) f (nltb→le (size v (slotWith B v h)) o u)))
+      by-choice (ltb (size v s) o) _ _ (TransferRule v o len s) (λ u. beyond (ltb→lt (size v s) o u)) (λ u. moved (nltb→le (size v s) o u))
 
-  past-handle : (s : ℕ) → Handled B v h s → (x : ℕ → Answer) → cond (not (ltb (slotWith B v h) (slots B))) (refused 14 0) (x (slotWith B v h)) ≡ x s
-  past-handle s f x =
-      cond-no (not (ltb (slotWith B v h) (slots B))) (refused 14 0) _ (yes-yes (ltb (slotWith B v h) (slots B)) (lt→ltb (slotWith B v h) (slots B) (handled-low B v h ok s f)))
-      ∙ ap x (handled-at B v h ok s f)
-
-  transfer-only : (a : Answer) → TransferRule B v h o len a → transferView B v h o len ≡ a
-  unfolding transferView counted
-  transfer-only _ (unhandled none) =
-      cond-yes (not (ltb (slotWith B v h) (slots B))) (refused 14 0) _ (le→nltb (slotWith B v h) (slots B) (unhandled-high B v h none))
-  transfer-only _ (beyond s f l) =
-      past-handle s f (λ t. cond (ltb (size v t) o) (refused 15 0) (value (min len (size v t - o)))) ∙ cond-yes (ltb (size v s) o) (refused 15 0) _ (lt→ltb (size v s) o l)
-  transfer-only _ (moved s f l) =
-      past-handle s f (λ t. cond (ltb (size v t) o) (refused 15 0) (value (min len (size v t - o)))) ∙ cond-no (ltb (size v s) o) (refused 15 0) _ (le→nltb (size v s) o l)
-
-  transfer-rule : (a : Answer) → (transferView B v h o len ≡ a) ↔ TransferRule B v h o len a
-  transfer-rule a = ((λ e. subst (TransferRule B v h o len) e transfer-holds), transfer-only a)
+  transfer-only : (a : Answer) → TransferRule v o len s a → transferAnswer v s o len ≡ a
+  unfolding transferAnswer counted
+  transfer-only _ (beyond l) = cond-yes (ltb (size v s) o) (refused 15 0) _ (lt→ltb (size v s) o l)
+  transfer-only _ (moved l) = cond-no (ltb (size v s) o) (refused 15 0) _ (le→nltb (size v s) o l)
 
 module _ (B : ℕ) (v : View) (s : ℕ) where
   list-holds : ListRule B v s (listView B v s)
@@ -312,20 +273,23 @@ module _ (B : ℕ) (sz : BlockSize B) (img : List ℕ) (ok : Consistent B img) w
   passed : check B img ≡ consistent
   passed = check-means B sz img .1 ok
 
+  transfer-rule : (nm : List ℕ) (o len : ℕ) (a : Answer) → (transferView B w nm o len ≡ a) ↔ FindRule B w nm (TransferRule w o len) a
+  unfolding transferView
+  transfer-rule nm o len =
+      find-rule B w (ok .sound) nm (TransferRule w o len) (λ s. transferAnswer w s o len) (transfer-holds w o len) (λ s a r. transfer-only w o len s a r)
+
   -- an answer is given exactly in its case of the request's table
   pub rule-reply : (r : Request) (a : Answer) → (reply B img r .answer ≡ a) ↔ Rule B (view B img) r a
-  unfolding perform openAnswer openView removeView listAnswer checkAnswer freeAnswer
+  unfolding perform removeView listAnswer checkAnswer freeAnswer
   rule-reply (changes (creates nm z)) a =
       iff-at (create B img nm z .answer) (createView B w nm z) a _ (ap (λ (o : Outcome). o .answer) (create-is B img passed nm z)) (create-rule B w (ok .sound) nm z a)
   rule-reply (changes (removes nm)) a =
-      iff-at (remove B img nm .answer) (removeView B w nm) a _ (ap (λ (o : Outcome). o .answer) (remove-is B img passed nm)) (find-rule B w (ok .sound) nm (λ s. done) a)
-  rule-reply (changes (writes h o bs)) a =
-      iff-at (write B img h o bs .answer) (transferView B w h o (length bs)) a _ (write-answer B img passed h o bs) (transfer-rule B w (ok .sound) h o (length bs) a)
+      iff-at (remove B img nm .answer) (removeView B w nm) a _ (ap (λ (o : Outcome). o .answer) (remove-is B img passed nm)) (find-rule B w (ok .sound) nm (λ s b. done ≡ b) (λ s. done) (λ s. refl) (λ s b e. e) a)
+  rule-reply (changes (writes nm o bs)) a =
+      iff-at (write B img nm o bs .answer) (transferView B w nm o (length bs)) a _ (write-answer B img nm o bs passed) (transfer-rule nm o (length bs) a)
   rule-reply checks a = iff-at (checkAnswer B img) done a _ (rw passed) ((λ e. e), λ e. e)
-  rule-reply (opens nm) a =
-      iff-at (openAnswer B img nm) (openView B w nm) a _ (rw passed) (find-rule B w (ok .sound) nm (λ s. value (inode w s)) a)
-  rule-reply (reads h o buf) a =
-      iff-at (read B img h o buf .answer) (transferView B w h o (length buf)) a _ (read-answer B img passed h o buf) (transfer-rule B w (ok .sound) h o (length buf) a)
+  rule-reply (reads nm o buf) a =
+      iff-at (read B img nm o buf .answer) (transferView B w nm o (length buf)) a _ (read-answer B img nm o buf passed) (transfer-rule nm o (length buf) a)
   rule-reply (lists s) a = iff-at (listAnswer B img s) (listView B w s) a _ (rw passed) (list-rule B w s a)
   rule-reply counts a = iff-at (freeAnswer B img) (value (B * freeBlocks w)) a _ (rw passed) ((λ e. e), λ e. e)
 
@@ -333,7 +297,7 @@ module _ (B : ℕ) (sz : BlockSize B) (img : List ℕ) (ok : Consistent B img) w
   unfolding perform
   create-answers nm z a = rule-reply (changes (creates nm z)) a
 
-  pub remove-answers : (nm : List ℕ) (a : Answer) → (remove B img nm .answer ≡ a) ↔ FindRule B (view B img) nm (λ s. done) a
+  pub remove-answers : (nm : List ℕ) (a : Answer) → (remove B img nm .answer ≡ a) ↔ FindRule B (view B img) nm (λ s b. done ≡ b) a
   unfolding perform
   remove-answers nm a = rule-reply (changes (removes nm)) a
 
@@ -355,4 +319,4 @@ stands-named B img ok nm s st =
 -- so a remove of it is granted
 pub stands-removed : (B : ℕ) → BlockSize B → (img : List ℕ) → Consistent B img → (nm : List ℕ) (s : ℕ) → Stands B (view B img) nm s → T (granted (remove B img nm .answer))
 stands-removed B sz img ok nm s st =
-    subst (λ (a : Answer). T (granted a)) (sym (remove-answers B sz img ok nm done .1 (found s (stands-named B img ok nm s st) st))) tt
+    subst (λ (a : Answer). T (granted a)) (sym (remove-answers B sz img ok nm done .1 (found s done (stands-named B img ok nm s st) st refl))) tt

@@ -1,5 +1,5 @@
 -- What the rules ignore has no say: the rest of block 0, map bits from N on, the bytes of block 2 behind the slots, the bytes past the last block.
-use mathlib.Core.Path.{_≡_, refl, sym, ap, ap₂, _∙_, subst}
+use mathlib.Core.Path.{_≡_, refl, sym, ap, ap₂, _∙_, subst, subst₂}
 use mathlib.Core.Bool.{Bool, not, cond, _&&_, _||_, Bool·beq}
 use Prim.Native.Nat.{ℕ, zero, suc, _+_, _-_, _*_, _/_, _%_, _≤_, _<_, min}
 use mathlib.Core.List.{List, [], _∷_, _++_}
@@ -14,15 +14,16 @@ use Rattle.list_laws.specs.Sum.{sum-cong}
 use Rattle.list_laws.specs.Table.{table-cong}
 use Rattle.list_laws.specs.Word.{word-cong}
 use Rattle.list_laws.specs.Part.{getD-part, part-ext}
-use Rattle.tfs_spec.specs.Layout.{BlockSize, slots, numbers, maxSize, need, blocks, block, slot, slotInode, slotName, slotFree, slotUsed, inRange, sameName, mapBit, magic, volumeName, nameAllowed, inodeSize, inodeNumber, View, view, viewN, inodeAt, free, used, inode, name, size, number, slotOf, slotWith, freeSlot, place, freeBlocks}
+use Rattle.tfs_spec.specs.Layout.{BlockSize, slots, numbers, maxSize, need, blocks, block, slot, slotInode, slotName, slotFree, slotUsed, inRange, sameName, mapBit, magic, volumeName, nameAllowed, inodeSize, inodeNumber, View, view, viewN, inodeAt, free, used, inode, name, size, number, slotOf, freeSlot, place, freeBlocks}
 use Rattle.tfs_spec.specs.Check.{Verdict, consistent, broken, found, tooShort, badMagic, badLabel, repeats, badSlot, badNumber, badInode, fileClaims, claimsTo, claims, claimedTwice, badBit, checkView, check, times}
-use Rattle.tfs_spec.specs.Requests.{Answer, value, refused, unused, file, granted, checked, Outcome, readBuffer, openView, openAnswer, freeFrom, chosen, createView, create, removeView, remove, counted, transferView, read, write, listView, listAnswer, freeAnswer, refuse}
+use Rattle.tfs_spec.specs.Requests.{Answer, value, refused, unused, file, granted, checked, Outcome, readBuffer, Lookup, inSlot, denied, lookup, looked, freeFrom, chosen, createView, create, removeView, remove, counted, transferAnswer, read, write, listView, listAnswer, freeAnswer, refuse}
 use Rattle.tfs_facts.specs.Views.{view-n, view-head, view-map, view-dir}
 use Rattle.tfs_spec.specs.Consistent.{Inside, Sound}
 use Rattle.tfs_spec.specs.Effects.{SameRead}
 use Rattle.tfs_facts.specs.CheckMeans.{check-means}
 use Rattle.tfs_facts.specs.Sizes.{in-block}
 use Rattle.tfs_proofs.specs.Places.{blocks-eq, position}
+use Rattle.tfs_proofs.specs.Transfers.{slotGiven, slotFor, transferView, filled, read-as, write-as}
 use Rattle.tfs_facts.specs.Stores.{block-byte}
 
 -- two views that differ at most so
@@ -121,11 +122,14 @@ module _ (B : ℕ) (v w : View) (al : Alike B v w) where
       least-cong (λ s. not (free v s) && sameName (name v s) nm) (λ s. not (free w s) && sameName (name w s) nm) (slots B)
       (λ s h i. not (free-alike s h i) && sameName (name-alike s h i) nm)
 
-  pub slot-with-alike : (h : ℕ) → slotWith B v h ≡ slotWith B w h
-  unfolding slotWith
-  slot-with-alike h =
-      least-cong (λ s. not (free v s) && eqb (inode v s) h) (λ s. not (free w s) && eqb (inode w s) h) (slots B)
-      (λ s l i. not (free-alike s l i) && eqb (inode-alike s l i) h)
+  lookup-alike : (nm : List ℕ) → lookup B v nm ≡ lookup B w nm
+  unfolding lookup
+  lookup-alike nm =
+      ap (λ (s : ℕ). cond (not (nameAllowed nm)) (denied 8) (cond (not (ltb s (slots B))) (denied 13) (inSlot s))) (slot-of-alike nm)
+
+  pub slot-for-alike : (nm : List ℕ) → slotFor B v nm ≡ slotFor B w nm
+  unfolding slotFor
+  slot-for-alike nm = ap (slotGiven B) (lookup-alike nm)
 
   pub free-slot-alike : freeSlot B v ≡ freeSlot B w
   unfolding freeSlot
@@ -159,13 +163,12 @@ module _ (B : ℕ) (v w : View) (al : Alike B v w) where
 
   remove-alike : (nm : List ℕ) → removeView B v nm ≡ removeView B w nm
   unfolding removeView
-  remove-alike nm = ap (λ (s : ℕ). cond (not (nameAllowed nm)) (refused 8 0) (cond (not (ltb s (slots B))) (refused 13 0) Answer.done)) (slot-of-alike nm)
+  remove-alike nm = ap (λ (x : Lookup). looked x refused (λ s. Answer.done)) (lookup-alike nm)
 
-  transfer-alike : (h o len : ℕ) → transferView B v h o len ≡ transferView B w h o len
-  unfolding transferView counted
-  transfer-alike h o len = λ i.
-      cond (not (ltb (slot-with-alike h i) (slots B))) (refused 14 0)
-      (cond (ltb (size-alike (slot-with-alike h i) i) o) (refused 15 0) (value (min len (size-alike (slot-with-alike h i) i - o))))
+  transfer-alike : (nm : List ℕ) (o len : ℕ) → transferView B v nm o len ≡ transferView B w nm o len
+  unfolding transferView transferAnswer counted
+  transfer-alike nm o len = λ i.
+      looked (lookup-alike nm i) refused (λ s. cond (ltb (size-alike s i) o) (refused 15 0) (value (min len (size-alike s i - o))))
 
   -- an answer that looks at a slot looks at one of the slots
   at-slot : (s : ℕ) (x y : ℕ → Answer) (else : Answer) → ((t : ℕ) → t < slots B → x t ≡ y t) → cond (not (ltb s (slots B))) else (x s) ≡ cond (not (ltb s (slots B))) else (y s)
@@ -173,13 +176,6 @@ module _ (B : ℕ) (v w : View) (al : Alike B v w) where
       by-test (ltb s (slots B))
       (λ t. ap (cond (not (ltb s (slots B))) else) (e s (ltb→lt s (slots B) t)))
       (λ t. cond-yes (not (ltb s (slots B))) else (x s) t ∙ sym (cond-yes (not (ltb s (slots B))) else (y s) t))
-
-  open-alike : (nm : List ℕ) → openView B v nm ≡ openView B w nm
-  unfolding openView
-  open-alike nm =
-      ap (cond (not (nameAllowed nm)) (refused 8 0))
-      (at-slot (slotOf B v nm) (λ s. value (inode v s)) (λ s. value (inode w s)) (refused 13 0) (λ t h. ap value (inode-alike t h))
-      ∙ ap (λ (s : ℕ). cond (not (ltb s (slots B))) (refused 13 0) (value (inode w s))) (slot-of-alike nm))
 
   list-alike : (s : ℕ) → listView B v s ≡ listView B w s
   unfolding listView
@@ -247,12 +243,6 @@ check-of : (B : ℕ) (a b : List ℕ) → length a ≡ length b → checkView B 
 unfolding check tooShort
 check-of B a b l e = λ i. cond (ltb (l i) (3 * B)) (broken 1 0) (e i)
 
--- what read gives, of an image with a verdict and a view
-abbrev pub filled : ℕ → ℕ → ℕ → List ℕ → List ℕ → Verdict → View → Outcome
-filled B h o buf img x v =
-    checked x (refuse img buf)
-    (record { answer = transferView B v h o (length buf); image = img; buffer = cond (granted (transferView B v h o (length buf))) (readBuffer B v img (slotWith B v h) o buf) buf })
-
 -- two outcomes with one answer and one buffer
 abbrev pub SameFill : Outcome → Outcome → Type 0
 SameFill x y = (x .answer ≡ y .answer) × (x .buffer ≡ y .buffer)
@@ -260,11 +250,10 @@ SameFill x y = (x .answer ≡ y .answer) × (x .buffer ≡ y .buffer)
 -- what the rules say of either image
 pub record IgnoredLaw (B : ℕ) (a b : List ℕ) : Type 0 where
   pub check-same : check B a ≡ check B b
-  pub open-same : (nm : List ℕ) → openAnswer B a nm ≡ openAnswer B b nm
   pub create-same : (nm : List ℕ) (z : ℕ) → create B a nm z .answer ≡ create B b nm z .answer
   pub remove-same : (nm : List ℕ) → remove B a nm .answer ≡ remove B b nm .answer
-  pub read-same : (h o : ℕ) (buf : List ℕ) → SameFill (read B a h o buf) (read B b h o buf)
-  pub write-same : (h o : ℕ) (buf : List ℕ) → write B a h o buf .answer ≡ write B b h o buf .answer
+  pub read-same : (nm : List ℕ) (o : ℕ) (buf : List ℕ) → SameFill (read B a nm o buf) (read B b nm o buf)
+  pub write-same : (nm : List ℕ) (o : ℕ) (buf : List ℕ) → write B a nm o buf .answer ≡ write B b nm o buf .answer
   pub list-same : (s : ℕ) → listAnswer B a s ≡ listAnswer B b s
   pub free-same : freeAnswer B a ≡ freeAnswer B b
 
@@ -273,10 +262,10 @@ outcome-answer consistent img new x = refl
 outcome-answer (broken num p) img new x = refl
 
 -- the bytes read lie in blocks of files, which are the same
-read-alike : (B : ℕ) → BlockSize B → (a b : List ℕ) → SameRead B a b → Alike B (view B a) (view B b) → check B a ≡ check B b → (h o : ℕ) (buf : List ℕ) → SameFill (read B a h o buf) (read B b h o buf)
-unfolding read readBuffer counted place
-read-alike B size-ok a b same al ch h o buf =
-    subst (λ (f : Verdict). SameFill (filled B h o buf a f v) (read B b h o buf)) (sym ch) (go (check B b) refl)
+read-alike : (B : ℕ) → BlockSize B → (a b : List ℕ) → SameRead B a b → Alike B (view B a) (view B b) → check B a ≡ check B b → (nm : List ℕ) (o : ℕ) (buf : List ℕ) → SameFill (read B a nm o buf) (read B b nm o buf)
+unfolding readBuffer counted place
+read-alike B size-ok a b same al ch nm o buf =
+    subst₂ SameFill (sym (read-as B a nm o buf ∙ ap (λ (f : Verdict). filled B nm o buf a f v) ch)) (sym (read-as B b nm o buf)) (go (check B b) refl)
   where
     v : View
     v = view B a
@@ -284,8 +273,8 @@ read-alike B size-ok a b same al ch h o buf =
     w : View
     w = view B b
 
-    ta : transferView B v h o (length buf) ≡ transferView B w h o (length buf)
-    ta = transfer-alike B v w al h o (length buf)
+    ta : transferView B v nm o (length buf) ≡ transferView B w nm o (length buf)
+    ta = transfer-alike B v w al nm o (length buf)
 
     same-bytes : Sound B w → (s : ℕ) → readBuffer B v a s o buf ≡ readBuffer B w b s o buf
     same-bytes ok s =
@@ -297,26 +286,29 @@ read-alike B size-ok a b same al ch h o buf =
         ap (λ (k : ℕ). getD a (k * B + p % B) 0) (number-alike B v w al s (p / B))
         ∙ block-byte B a b (number w s (p / B)) (p % B) (in-block B (omega (arith, size-ok .large)) p) (same .rest (number w s (p / B)) (c .low) (omega (arith, c .high, view-n B b, blocks-eq B a b (same .long))))))
 
-    go : (x : Verdict) → check B b ≡ x → SameFill (filled B h o buf a x v) (filled B h o buf b x w)
+    go : (x : Verdict) → check B b ≡ x → SameFill (filled B nm o buf a x v) (filled B nm o buf b x w)
     go consistent e = (
       ta,
-      λ i. cond (granted (ta i)) ((ap (λ (s : ℕ). readBuffer B v a s o buf) (slot-with-alike B v w al h) ∙ same-bytes (check-means B size-ok b .0 e .sound) (slotWith B w h)) i) buf,
+      λ i. cond (granted (ta i)) ((ap (λ (s : ℕ). readBuffer B v a s o buf) (slot-for-alike B v w al nm) ∙ same-bytes (check-means B size-ok b .0 e .sound) (slotFor B w nm)) i) buf,
     )
     go (broken num p) e = (refl, refl)
 
 pub ignored : (B : ℕ) → BlockSize B → (a b : List ℕ) → SameRead B a b → IgnoredLaw B a b
-unfolding openAnswer create remove read write listAnswer freeAnswer
+unfolding create remove listAnswer freeAnswer
 ignored B size-ok a b same =
     record {
       check-same = ch;
-      open-same = λ nm. ap₂ (λ (f : Verdict) (x : Answer). checked f refused x) ch (open-alike B (view B a) (view B b) al nm);
       create-same = λ nm z.
           (outcome-answer (check B a) a _ (createView B (view B a) nm z) ∙ ap₂ (λ (f : Verdict) (x : Answer). checked f refused x) ch (create-alike B (view B a) (view B b) al nm z) ∙ sym (outcome-answer (check B b) b _ (createView B (view B b) nm z)));
       remove-same = λ nm.
           (outcome-answer (check B a) a _ (removeView B (view B a) nm) ∙ ap₂ (λ (f : Verdict) (x : Answer). checked f refused x) ch (remove-alike B (view B a) (view B b) al nm) ∙ sym (outcome-answer (check B b) b _ (removeView B (view B b) nm)));
-      read-same = λ h o buf. read-alike B size-ok a b same al ch h o buf;
-      write-same = λ h o buf.
-          (outcome-answer (check B a) a _ (transferView B (view B a) h o (length buf)) ∙ ap₂ (λ (f : Verdict) (x : Answer). checked f refused x) ch (transfer-alike B (view B a) (view B b) al h o (length buf)) ∙ sym (outcome-answer (check B b) b _ (transferView B (view B b) h o (length buf))));
+      read-same = read-alike B size-ok a b same al ch;
+      write-same = λ nm o buf.
+          (ap (λ (x : Outcome). x .answer) (write-as B a nm o buf)
+          ∙ outcome-answer (check B a) a _ (transferView B (view B a) nm o (length buf))
+          ∙ ap₂ (λ (f : Verdict) (x : Answer). checked f refused x) ch (transfer-alike B (view B a) (view B b) al nm o (length buf))
+          ∙ sym (outcome-answer (check B b) b _ (transferView B (view B b) nm o (length buf)))
+          ∙ sym (ap (λ (x : Outcome). x .answer) (write-as B b nm o buf)));
       list-same = λ s. ap₂ (λ (f : Verdict) (x : Answer). checked f refused x) ch (list-alike B (view B a) (view B b) al s);
       free-same = ap₂ (λ (f : Verdict) (x : Answer). checked f refused x) ch (ap (λ (x : ℕ). value (B * x)) (room-alike B (view B a) (view B b) al));
     }

@@ -1,4 +1,4 @@
--- Two images that differ at most in what the rules ignore differ in no more after any request out of create, remove and write, nor after any number of them.
+-- Two images that differ at most in what the rules ignore differ in no more after any request, nor after any number of them.
 use mathlib.Core.Path.{_≡_, sym, ap, _∙_, subst, subst₂}
 use mathlib.Core.Logic.{_≢_, _⊎_, inl, inr, ⊎-elim}
 use mathlib.Core.Bool.{not}
@@ -10,20 +10,21 @@ use native.Mathlib.Decide.{ℕ-discrete, decLt}
 use lib.ListN.{length, getD, set, take, length-set}
 use lib.Seq.{getD-set-same, getD-set-other, set-out}
 use lib.Arith.{digits-div}
-use lib.Dec.{T}
+use lib.Dec.{T, ltb}
 use Rattle.list_laws.specs.Test.{by-test}
 use Rattle.lists.specs.Lists.{storeAt, part, In}
 use Rattle.list_laws.specs.Part.{part-ext}
-use Rattle.tfs_spec.specs.Layout.{BlockSize, slots, need, blocks, block, slot, mapBit, View, view, size, slotOf, slotWith, freeSlot, place}
-use Rattle.tfs_spec.specs.Check.{check, consistent, fileClaims}
+use Rattle.tfs_spec.specs.Layout.{BlockSize, slots, need, blocks, block, slot, mapBit, View, view, size, slotOf, freeSlot, place}
+use Rattle.tfs_spec.specs.Check.{check, consistent, fileClaims, tooShort}
 use Rattle.tfs_spec.specs.Consistent.{File, Consistent}
 use Rattle.tfs_facts.specs.CheckMeans.{check-means}
-use Rattle.tfs_spec.specs.Requests.{Answer, granted, chosen, create, remove, write, Change, creates, removes, writes, perform, afterAll}
+use Rattle.tfs_spec.specs.Requests.{Answer, granted, format, chosen, create, remove, write, Change, creates, removes, writes, perform, changes, checks, reads, lists, counts, Operation, formats, requests, operate, afterAll}
 use Rattle.tfs_facts.specs.Sizes.{apart-blocks}
 use Rattle.tfs_facts.specs.Views.{view-head, view-map, view-dir}
 use Rattle.tfs_facts.specs.Stores.{length-block, block-byte}
 use Rattle.tfs_facts.specs.MapBits.{in-dec, in-at}
 use Rattle.tfs_proofs.specs.Writes.{step}
+use Rattle.tfs_proofs.specs.Transfers.{slotFor, read-image}
 use Rattle.tfs_proofs.specs.Places.{filesOf, blocks-eq}
 use Rattle.tfs_proofs.specs.WriteLists.{wr, putOf, request-image, request-view, request-length}
 use Rattle.tfs_spec.specs.Laws.{request}
@@ -31,7 +32,9 @@ use Rattle.tfs_proofs.specs.Removes.{low-inside}
 use Rattle.tfs_proofs.specs.Changes.{refused-keeps, remove-granted}
 use Rattle.tfs_spec.specs.Effects.{Kept, SameRead, BlockOf, RemoveTouch, CreateTouch}
 use Rattle.tfs_proofs.specs.Kept.{create-kept, remove-kept, granted-passed}
-use Rattle.tfs_proofs.specs.Ignored.{Alike, alike, size-alike, number-alike, inode-alike, slot-of-alike, slot-with-alike, free-slot-alike, chosen-alike, ignored}
+use Rattle.tfs_proofs.specs.Ignored.{Alike, alike, size-alike, number-alike, inode-alike, slot-of-alike, slot-for-alike, free-slot-alike, chosen-alike, ignored}
+use Rattle.tfs_proofs.specs.Formats.{format-refused, format-past, format-length, format-head, format-map, format-directory}
+use Rattle.tfs_proofs.specs.Tail.{format-answer}
 use Rattle.tfs_spec.specs.Answers.{Stands}
 use Rattle.tfs_proofs.specs.Grants.{stands-hit}
 use Rattle.tfs_proofs.specs.Touches.{block-claimed, claimed-block, remove-touches, created-touch}
@@ -137,7 +140,7 @@ module _ (B : ℕ) (sz : BlockSize B) (a b : List ℕ) (same : SameRead B a b) (
         inside i r k p = subst (λ (x : ℕ). In x cs) (digits-div i k) p
 
         own : (m : ℕ) → m < length cs → block B na (getD cs m 0) ≡ block B nb (getD cs m 0)
-        own zero k = subst (λ (x : ℕ). block B na x ≡ block B nb x) (sym (ta .handle)) (ta .inode ∙ sym (tb .inode))
+        own zero k = subst (λ (x : ℕ). block B na x ≡ block B nb x) (sym (ta .number)) (ta .inode ∙ sym (tb .inode))
         own (suc m) k =
             let l : m < need B z = omega (arith, ta .blocks .long) in
             ta .zeroed m l ∙ sym (tb .zeroed m l)
@@ -209,15 +212,15 @@ module _ (B : ℕ) (sz : BlockSize B) (a b : List ℕ) (same : SameRead B a b) (
           (λ k. inr (k .0, subst (λ (z : ℕ). k .0 < need B z) (sym (size-alike B v w al s)) (k .1), number-alike B v w al s (k .0) ∙ k .2)) o
 
   -- a write, granted or refused
-  write-moves : (x : List ℕ) (h o : ℕ) (bs : List ℕ) → step (filesOf B v) x (putOf B v (wr h o bs)) ≡ step (filesOf B w) x (putOf B w (wr h o bs))
+  write-moves : (x : List ℕ) (nm : List ℕ) (o : ℕ) (bs : List ℕ) → step (filesOf B v) x (putOf B v (wr nm o bs)) ≡ step (filesOf B w) x (putOf B w (wr nm o bs))
   unfolding putOf place
-  write-moves x h o bs = λ i.
-      storeAt (λ p. number-alike B v w al (slot-with-alike B v w al h i) (p / B) i * B + p % B) x o
-      (take (size-alike B v w al (slot-with-alike B v w al h i) i - o) bs)
+  write-moves x nm o bs = λ i.
+      storeAt (λ p. number-alike B v w al (slot-for-alike B v w al nm i) (p / B) i * B + p % B) x o
+      (take (size-alike B v w al (slot-for-alike B v w al nm i) i - o) bs)
 
-  written-alike : (h o : ℕ) (bs : List ℕ) → SameRead B (write B a h o bs .image) (write B b h o bs .image)
+  written-alike : (nm : List ℕ) (o : ℕ) (bs : List ℕ) → SameRead B (write B a nm o bs .image) (write B b nm o bs .image)
   unfolding request putOf
-  written-alike h o bs =
+  written-alike nm o bs =
       record {
         long = la ∙ same .long ∙ sym lb;
         head = ap (part 0 20) (sym (view-head B na) ∙ ap (λ (x : View). x .head) va ∙ view-head B a) ∙ same .head ∙ sym (ap (part 0 20) (sym (view-head B nb) ∙ ap (λ (x : View). x .head) vb ∙ view-head B b));
@@ -232,16 +235,16 @@ module _ (B : ℕ) (sz : BlockSize B) (a b : List ℕ) (same : SameRead B a b) (
         rest = λ i l m.
             block-ext B na nb i (la ∙ same .long ∙ sym lb)
             (λ r k.
-            ap (λ (x : List ℕ). getD x (i * B + r) 0) (request-image B a pa (wr h o bs) ∙ write-moves a h o bs)
-            ∙ store-same (place B w (slotWith B w h)) (take (size w (slotWith B w h) - o) bs) a b o (i * B + r) (same .long) (block-byte B a b i r k (same .rest i l (subst (λ (n : ℕ). i < n) (blocks-eq B na a la) m)))
-            ∙ sym (ap (λ (x : List ℕ). getD x (i * B + r) 0) (request-image B b pb (wr h o bs))));
+            ap (λ (x : List ℕ). getD x (i * B + r) 0) (request-image B a pa (wr nm o bs) ∙ write-moves a nm o bs)
+            ∙ store-same (place B w (slotFor B w nm)) (take (size w (slotFor B w nm) - o) bs) a b o (i * B + r) (same .long) (block-byte B a b i r k (same .rest i l (subst (λ (n : ℕ). i < n) (blocks-eq B na a la) m)))
+            ∙ sym (ap (λ (x : List ℕ). getD x (i * B + r) 0) (request-image B b pb (wr nm o bs))));
       }
     where
       na : List ℕ
-      na = write B a h o bs .image
+      na = write B a nm o bs .image
 
       nb : List ℕ
-      nb = write B b h o bs .image
+      nb = write B b nm o bs .image
 
       pa : check B a ≡ consistent
       pa = check-means B sz a .1 oka
@@ -250,16 +253,16 @@ module _ (B : ℕ) (sz : BlockSize B) (a b : List ℕ) (same : SameRead B a b) (
       pb = check-means B sz b .1 okb
 
       la : length na ≡ length a
-      la = request-length B pos a pa (oka .sound) (wr h o bs)
+      la = request-length B pos a pa (oka .sound) (wr nm o bs)
 
       lb : length nb ≡ length b
-      lb = request-length B pos b pb (okb .sound) (wr h o bs)
+      lb = request-length B pos b pb (okb .sound) (wr nm o bs)
 
       va : view B na ≡ view B a
-      va = request-view B pos a pa (oka .sound) (wr h o bs)
+      va = request-view B pos a pa (oka .sound) (wr nm o bs)
 
       vb : view B nb ≡ view B b
-      vb = request-view B pos b pb (okb .sound) (wr h o bs)
+      vb = request-view B pos b pb (okb .sound) (wr nm o bs)
 
 -- ---- one request, granted or refused
 module _ (B : ℕ) (sz : BlockSize B) (a b : List ℕ) (same : SameRead B a b) where
@@ -268,16 +271,16 @@ module _ (B : ℕ) (sz : BlockSize B) (a b : List ℕ) (same : SameRead B a b) w
   unfolding perform
   answer-same (creates nm z) = ignored B sz a b same .create-same nm z
   answer-same (removes nm) = ignored B sz a b same .remove-same nm
-  answer-same (writes h o bs) = ignored B sz a b same .write-same h o bs
+  answer-same (writes nm o bs) = ignored B sz a b same .write-same nm o bs
 
   granted-alike : (c : Change) → Consistent B a → Consistent B b → T (granted (perform B a c .answer)) → T (granted (perform B b c .answer)) → SameRead B (perform B a c .image) (perform B b c .image)
   unfolding perform
   granted-alike (creates nm z) oka okb ga gb = created-alike B sz a b same oka okb nm z ga gb
   granted-alike (removes nm) oka okb ga gb = removed-alike B sz a b same oka okb nm ga gb
-  granted-alike (writes h o bs) oka okb ga gb = written-alike B sz a b same oka okb h o bs
+  granted-alike (writes nm o bs) oka okb ga gb = written-alike B sz a b same oka okb nm o bs
 
   -- the images that it leaves differ at most in what the rules ignore
-  pub same-after : (c : Change) → SameRead B (perform B a c .image) (perform B b c .image)
+  same-after : (c : Change) → SameRead B (perform B a c .image) (perform B b c .image)
   same-after c =
       by-test (granted (perform B a c .answer))
       (λ ga.
@@ -287,8 +290,44 @@ module _ (B : ℕ) (sz : BlockSize B) (a b : List ℕ) (same : SameRead B a b) w
       let rb = subst (λ (x : Answer). T (not (granted x))) (answer-same c) ra in
       subst₂ (SameRead B) (sym (refused-keeps B a c ra)) (sym (refused-keeps B b c rb)) same)
 
+  -- nor do those that a format leaves
+  format-after : (label : List ℕ) → SameRead B (format B a label .image) (format B b label .image)
+  unfolding tooShort
+  format-after label =
+      by-test (granted (format B a label .answer)) formatted (λ ra. subst₂ (SameRead B) (sym (format-refused B a label ra)) (sym (format-refused B b label (subst (λ (x : Answer). T (not (granted x))) answers ra))) same)
+    where
+      answers : format B a label .answer ≡ format B b label .answer
+      answers = format-answer B a b label (ap (λ (n : ℕ). ltb n (3 * B)) (same .long))
+
+      formatted : T (granted (format B a label .answer)) → SameRead B (format B a label .image) (format B b label .image)
+      formatted ga =
+          let gb : T (granted (format B b label .answer)) = subst (λ (x : Answer). T (granted x)) answers ga in
+          let la : length (format B a label .image) ≡ length a = format-length sz a label in
+          let long : length (format B a label .image) ≡ length (format B b label .image) = la ∙ same .long ∙ sym (format-length sz b label) in
+          record {
+            long = long;
+            head = ap (part 0 20) (format-head sz a label ga ∙ sym (format-head sz b label gb));
+            bits = λ i l. ap (λ (m : List ℕ). mapBit m i) (format-map sz a label ga ∙ sym (format-map sz b label gb));
+            slots-same = λ t l. ap (λ (d : List ℕ). slot d t) (format-directory sz a label ga ∙ sym (format-directory sz b label gb));
+            rest = λ i l m.
+                block-ext B (format B a label .image) (format B b label .image) i long
+                (λ r k.
+                let past : 3 * B ≤ i * B + r = omega (arith, mul-le-mul-right {m = 3} {n = i} B l) in
+                format-past sz a label (i * B + r) past
+                ∙ block-byte B a b i r k (same .rest i l (subst (λ (n : ℕ). i < n) (blocks-eq B (format B a label .image) a la) m))
+                ∙ sym (format-past sz b label (i * B + r) past));
+          }
+
+  pub same-after-any : (x : Operation) → SameRead B (operate B a x .image) (operate B b x .image)
+  same-after-any (formats label) = format-after label
+  same-after-any (requests (changes c)) = same-after c
+  same-after-any (requests checks) = same
+  same-after-any (requests (reads nm o buf)) = subst₂ (SameRead B) (sym (read-image B a nm o buf)) (sym (read-image B b nm o buf)) same
+  same-after-any (requests (lists s)) = same
+  same-after-any (requests counts) = same
+
 -- ---- any number of requests
-pub same-after-all : (B : ℕ) → BlockSize B → (a b : List ℕ) → SameRead B a b → (cs : List Change) → SameRead B (afterAll B a cs) (afterAll B b cs)
+pub same-after-all : (B : ℕ) → BlockSize B → (a b : List ℕ) → SameRead B a b → (xs : List Operation) → SameRead B (afterAll B a xs) (afterAll B b xs)
 unfolding afterAll
 same-after-all B sz a b same [] = same
-same-after-all B sz a b same (c ∷ cs) = same-after-all B sz (perform B a c .image) (perform B b c .image) (same-after B sz a b same c) cs
+same-after-all B sz a b same (x ∷ xs) = same-after-all B sz (operate B a x .image) (operate B b x .image) (same-after-any B sz a b same x) xs

@@ -51,7 +51,7 @@ pub granted-passed : (B : ℕ) (img : List ℕ) (c : Change) → T (granted (per
 unfolding perform create remove write
 granted-passed B img (creates nm z) t = granted-core (check B img) img _ t
 granted-passed B img (removes nm) t = granted-core (check B img) img _ t
-granted-passed B img (writes h o bs) t = granted-core (check B img) img _ t
+granted-passed B img (writes nm o bs) t = granted-core (check B img) img _ t
 
 -- what holds of the image before and after a grant holds after every answer
 by-answer : (B : ℕ) (img : List ℕ) (c : Change) (P : List ℕ → Type 0) → P img → (check B img ≡ consistent → T (granted (perform B img c .answer)) → P (perform B img c .image)) → P (perform B img c .image)
@@ -73,9 +73,9 @@ by-remove B img nm P same full =
     (λ e g. subst P (sym (remove-image B img e nm g)) (full e (remove-granted B img e nm g)))
 
 -- write changes nothing where the volume is not consistent
-pub by-write : (B : ℕ) (img : List ℕ) (h o : ℕ) (buf : List ℕ) (P : List ℕ → Type 0) → P img → (check B img ≡ consistent → P (write B img h o buf .image)) → P (write B img h o buf .image)
+pub by-write : (B : ℕ) (img nm : List ℕ) (o : ℕ) (buf : List ℕ) (P : List ℕ → Type 0) → P img → (check B img ≡ consistent → P (write B img nm o buf .image)) → P (write B img nm o buf .image)
 unfolding perform
-by-write B img h o buf P same full = by-answer B img (writes h o buf) P same (λ e g. full e)
+by-write B img nm o buf P same full = by-answer B img (writes nm o buf) P same (λ e g. full e)
 
 -- ---- a map with bits of blocks below N changed, and a directory with a slot changed
 -- the volume ends inside the image
@@ -229,8 +229,8 @@ module _ {B : ℕ} (size : BlockSize B) (img : List ℕ) where
   remove-kept nm = by-remove B img nm (Kept B img) (kept-same B img) (λ e l. remove-keeps B size img (sound-of e) nm l)
 
   -- and write
-  pub write-kept : (h o : ℕ) (buf : List ℕ) → Kept B img (write B img h o buf .image)
+  pub write-kept : (nm : List ℕ) (o : ℕ) (buf : List ℕ) → Kept B img (write B img nm o buf .image)
   unfolding request
-  write-kept h o buf =
-      by-write B img h o buf (Kept B img) (kept-same B img)
-      (λ e. kept-view B img (write B img h o buf .image) (request-view B (omega (arith, size .large)) img e (sound-of e .sound) (wr h o buf)))
+  write-kept nm o buf =
+      by-write B img nm o buf (Kept B img) (kept-same B img)
+      (λ e. kept-view B img (write B img nm o buf .image) (request-view B (omega (arith, size .large)) img e (sound-of e .sound) (wr nm o buf)))

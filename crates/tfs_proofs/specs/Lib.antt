@@ -1,6 +1,7 @@
 pub mod Content
 pub mod Writes
 pub mod Places
+pub mod Transfers
 pub mod WriteLists
 pub mod Frame
 pub mod Ledger
@@ -11,7 +12,6 @@ pub mod WriteContents
 pub mod Changes
 pub mod Orders
 pub mod CreateRemove
-pub mod Handles
 pub mod Formats
 pub mod Reads
 pub mod Kept
@@ -21,9 +21,10 @@ pub mod Grants
 pub mod Answers
 pub mod Touches
 pub mod Rooms
-pub mod HandleSteps
 pub mod IgnoredSteps
 pub mod Offsets
+pub mod Histories
+pub mod Inodes
 pub mod Replies
 pub mod Proved
 pub mod Numbers

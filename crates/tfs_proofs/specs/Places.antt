@@ -27,9 +27,6 @@ owner-inode s t k e = let z : _≡_ {A = ℕ} 0 1 = cc in omega arith
 pub owner-content : (s t j k : ℕ) → contentOf s j ≡ contentOf t k → (s ≡ t) × (j ≡ k)
 owner-content s t j k e = (cc, cc)
 
-pub owner-slot : (s t : ℕ) → inodeOf s ≡ inodeOf t → s ≡ t
-owner-slot s t e = cc
-
 pub blocks-eq : (B : ℕ) (a b : List ℕ) → length a ≡ length b → blocks B a ≡ blocks B b
 unfolding blocks
 blocks-eq B a b e = ap (λ (l : ℕ). min (8 * B) (l / B)) e

@@ -5,8 +5,7 @@ use native.Mathlib.Omega.{arith}
 use lib.Dec.{T}
 use Rattle.tfs_spec.specs.Layout.{labelAllowed, view}
 use Rattle.tfs_spec.specs.Check.{check}
-use Rattle.tfs_spec.specs.Requests.{Answer, granted, format, checkAnswer, writes, perform, reads, changes}
-use Rattle.tfs_spec.specs.Answers.{unhandled}
+use Rattle.tfs_spec.specs.Requests.{Answer, granted, format, checkAnswer, perform}
 use Rattle.tfs_facts.specs.CheckMeans.{check-means, check-breaks, same-means}
 use Rattle.tfs_facts.specs.Sizes.{size-512}
 use Rattle.tfs_facts.specs.Total.{adds-up}
@@ -16,18 +15,16 @@ use Rattle.tfs_proofs.specs.Bytes as stay
 use Rattle.tfs_proofs.specs.Offsets as offsets
 use Rattle.tfs_proofs.specs.Content.{length-content, content-joined}
 use Rattle.tfs_proofs.specs.Others.{stands, stands-not}
-use Rattle.tfs_proofs.specs.Changes.{changed, stays-consistent, name-on}
-use Rattle.tfs_proofs.specs.Formats.{format-refused, format-grants, format-consistent, format-empty, format-handles, format-past, format-length, format-head, format-map, format-directory}
-use Rattle.tfs_proofs.specs.Reads.{read-law, covers}
+use Rattle.tfs_proofs.specs.Changes.{changed, stays-consistent}
+use Rattle.tfs_proofs.specs.Formats.{format-refused, format-grants, format-consistent, format-empty, format-past, format-length, format-head, format-map, format-directory}
+use Rattle.tfs_proofs.specs.Reads.{transfer-law, covers}
 use Rattle.tfs_proofs.specs.Grants.{stands-at, fresh-high, label-allowed, name-allowed, format-rule, rule-reply}
-use Rattle.tfs_proofs.specs.Replies.{told-done, told-broken, granted-or-refused, faulty, fault-reply, numbered, keeps, kept, ignored-reply, tail-kept-by, tail-unread-by}
-use Rattle.tfs_proofs.specs.Tail.{tail-kept, tail-unread}
+use Rattle.tfs_proofs.specs.Replies.{told-done, told-broken, granted-or-refused, faulty, fault-reply, numbered, list-only, keeps, kept, ignored-reply, tail-kept-by, tail-unread-by}
 use Rattle.tfs_proofs.specs.IgnoredSteps.{same-after-all}
 use Rattle.tfs_proofs.specs.Touches.{remove-touches, create-touches}
 use Rattle.tfs_proofs.specs.Rooms.{removed-room, created-room, written-room}
-use Rattle.tfs_proofs.specs.Handles.{open-means}
-use Rattle.tfs_proofs.specs.HandleSteps.{means-file, step-gone, step-new, handles-law}
-use Rattle.tfs_proofs.specs.HandleSteps as steps
+use Rattle.tfs_proofs.specs.Histories.{history-law}
+use Rattle.tfs_proofs.specs.Inodes.{inode-law}
 use Rattle.tfs_proofs.specs.WriteLists.{writes-law, pieces-law}
 use Rattle.tfs_proofs.specs.CreateRemove.{back-law}
 use Rattle.tfs_proofs.specs.Orders.{orders-law}
@@ -64,6 +61,7 @@ statements =
           };
       refusal-laws = λ B sz img. record {
         numbered = numbered B sz img;
+        list-only = list-only B sz img;
         keeps = keeps B img;
         format-keeps = format-refused B img;
         granted-or-refused = granted-or-refused;
@@ -80,7 +78,7 @@ statements =
         named = λ nm s st. stands B img nm s (stands-at B (view B img) nm (ok .sound) s st) (st .file .slot);
         absent = λ nm none. stands-not B img nm (fresh-high B (view B img) nm none);
       };
-      change-laws = λ B sz img ok. record { stays = stays-consistent B sz img ok; changes = λ c g. changed B sz img ok c g .contents; name-on = name-on B sz img ok };
+      change-laws = λ B sz img ok. record { stays = stays-consistent B sz img ok; changes = λ c g. changed B sz img ok c g .contents };
       touch-laws = λ B sz img ok. record { created = create-touches B sz img ok; removed = remove-touches B sz img ok };
       format-laws = λ B sz img label h l.
           let t : T (labelAllowed label) = label-allowed label .1 l in
@@ -89,22 +87,18 @@ statements =
             answer = format-grants sz img label h t;
             consistent = format-consistent sz img label g;
             empty = format-empty sz img label g;
-            handles = format-handles sz img label g;
             head = format-head sz img label g;
             map = format-map sz img label g;
             directory = format-directory sz img label g;
             past = format-past sz img label;
             long = format-length sz img label;
           };
-      read-laws = read-law;
       kept-laws = λ B sz img. record {
         kept = kept B sz img;
         ignored = ignored-reply B sz img;
         ignored-after = same-after-all B sz img;
         tail-kept = tail-kept-by B sz img;
-        tail-formatted = tail-kept sz img .formatted;
         tail-unread = tail-unread-by B sz img;
-        tail-format = λ b same label. (tail-unread sz img b same .format-answer label, tail-unread sz img b same .formatted label);
       };
       byte-laws = λ B sz small img bytes. record {
         formatted = stay.format-bytes B sz img bytes;
@@ -119,22 +113,13 @@ statements =
         taken = created-room B sz img ok;
         written = written-room B sz img ok;
       };
-      handle-laws = λ B sz img ok. record {
-        opened = λ nm h e. means-file B (view B img) (ok .sound) h nm .0 (open-means B sz img ok nm h e);
-        created = step-new B sz img ok;
-        none-read = λ h none o buf. rule-reply B sz img ok (reads h o buf) _ .1 (unhandled none);
-        none-written = λ h none o bs. rule-reply B sz img ok (changes (writes h o bs)) _ .1 (unhandled none);
-        removed = λ nm h w. step-gone B sz img ok h nm w;
-        retaken = steps.retaken B sz img ok;
-        left = steps.left B sz img ok;
-        consistent = λ cs. handles-law B sz img ok cs .consistent;
-        file = λ cs. handles-law B sz img ok cs .file;
-        none = λ cs. handles-law B sz img ok cs .none;
-      };
+      transfer-laws = transfer-law;
+      history-laws = history-law;
+      inode-laws = inode-law;
       request-laws = λ B sz img ok. record {
         writes = writes-law B (omega (arith, sz .large)) img (check-means B sz img .1 ok) (ok .sound);
-        covers = covers B sz img ok;
-        pieces = λ h o bs. pieces-law B (omega (arith, sz .large)) h bs o img (check-means B sz img .1 ok) (ok .sound);
+        covers = covers B img;
+        pieces = λ nm o bs. pieces-law B (omega (arith, sz .large)) nm bs o img (check-means B sz img .1 ok) (ok .sound);
         back = back-law B sz img ok;
         orders = orders-law B sz img ok;
       };

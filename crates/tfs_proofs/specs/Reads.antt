@@ -1,26 +1,31 @@
--- What read gives: the bytes of the file from the offset on, and the rest of the buffer as it was.
+-- What read and write come to, by what stands under their name and nothing else; and what a write covers.
 use mathlib.Core.Path.{_≡_, refl, sym, ap, subst, _∙_}
 use mathlib.Core.Logic.{_↔_}
 use mathlib.Core.Bool.{not, cond}
 use Prim.Native.Nat.{ℕ, zero, suc, _+_, _-_, _≤_, _<_, min}
-use mathlib.Core.List.{List, _∷_, _++_}
+use mathlib.Core.List.{List, [], _∷_, _++_}
+use mathlib.Core.Option.{Option, some}
 use native.Mathlib.Omega.{arith}
 use native.Mathlib.Nat.{zero-add}
-use lib.ListN.{length, getD, take, drop}
-use lib.Dec.{T, ltb, ltb→lt, nltb→le, lt→ltb, eqb→eq, eqb, leb→le, leb, le→leb}
-use Rattle.list_laws.specs.Test.{cond-no, not-not, and-of, and-l, and-r, eqb-of}
+use lib.ListN.{length, getD, take, drop, length-drop}
+use lib.Dec.{T, T-not, not-T, ltb, ltb→lt, lt→ltb, leb→le, leb, le→leb}
+use Rattle.list_laws.specs.Test.{by-test, cond-yes, cond-no, and-of, and-l, and-r}
 use Rattle.lists.specs.Lists.{table}
-use Rattle.tfs_spec.specs.Layout.{slots, BlockSize, View, view, inode, size, slotWith, place, content}
+use Rattle.list_laws.specs.Table.{length-table}
+use Rattle.tfs_spec.specs.Layout.{BlockSize, nameAllowed, sameName, View, view, size, slotOf, place, content, contents}
 use Rattle.tfs_spec.specs.Check.{Verdict, consistent, broken, check}
-use Rattle.tfs_spec.specs.Consistent.{File, Consistent}
-use Rattle.tfs_spec.specs.Answers.{Handled}
-use Rattle.tfs_spec.specs.Effects.{ReadLaws}
+use Rattle.tfs_spec.specs.Consistent.{Consistent}
+use Rattle.tfs_spec.specs.Answers.{NameRule}
+use Rattle.tfs_spec.specs.Effects.{transferOn, readOn, readBy, TransferLaws}
 use Rattle.tfs_spec.specs.Laws.{Write, request, countOf, coversAt}
-use Rattle.tfs_proofs.specs.WriteLists.{request-answer}
-use Rattle.tfs_spec.specs.Requests.{Answer, value, refused, granted, counted, transferView, readBuffer, read, checked, refuse, done, unused, file}
+use Rattle.tfs_spec.specs.Requests.{Answer, done, value, unused, file, refused, granted, Outcome, refuse, checked, Lookup, lookup, looked, counted, transferAnswer, readBuffer, readFile, readStep, read, writeFile, writeStep, write}
 use Rattle.tfs_facts.specs.CheckMeans.{check-means}
-use Rattle.tfs_facts.specs.Names.{handle-hit, handle-is}
-use Rattle.tfs_proofs.specs.Creates.{value-step, same-value}
+use Rattle.tfs_facts.specs.Lookups.{by-lookup, lookup-misnamed}
+use Rattle.tfs_proofs.specs.Content.{length-content}
+use Rattle.tfs_proofs.specs.Others.{stands, stands-not}
+use Rattle.tfs_proofs.specs.Transfers.{transferView, filled, read-as, write-answer}
+use Rattle.tfs_proofs.specs.WriteLists.{take-min}
+use Rattle.tfs_proofs.specs.Grants.{name-allowed}
 
 -- ---- a stretch of a table
 -- of a table, the elements from o on, the first c, and c of them from o on
@@ -40,66 +45,101 @@ take-table f (suc c) k (suc d) h = ap (λ (l : List ℕ). f k ∷ l) (take-table
 table-stretch : (f : ℕ → ℕ) (o c d : ℕ) → c ≤ d - o → table f o c ≡ take c (drop o (table f 0 d))
 table-stretch f o c d h = sym (ap (take c) (drop-table f o 0 d ∙ ap (λ (j : ℕ). table f j (d - o)) (zero-add o)) ∙ take-table f c o (d - o) h)
 
--- ---- a granted transfer
-pub record Transfer (B : ℕ) (v : View) (h o len c : ℕ) : Type 0 where
-  -- the handle is the inode number of a file
-  pub file : File B v (slotWith B v h)
-  pub handle : inode v (slotWith B v h) ≡ h
-  -- the offset is not past its end
-  pub within : o ≤ size v (slotWith B v h)
-  -- "count = smaller of buffer length and size − offset"
-  pub count : c ≡ min len (size v (slotWith B v h) - o)
+-- ---- "A refusal leaves .. lent buffers unchanged"
+pub read-refused : (B : ℕ) (img nm : List ℕ) (o : ℕ) (buf : List ℕ) → T (not (granted (read B img nm o buf .answer))) → read B img nm o buf .buffer ≡ buf
+read-refused B img nm o buf t =
+    ap (λ (x : Outcome). x .buffer) (read-as B img nm o buf)
+    ∙ go (check B img) (subst (λ (x : Outcome). T (not (granted (x .answer)))) (read-as B img nm o buf) t)
+  where
+    go : (x : Verdict) → T (not (granted (filled B nm o buf img x (view B img) .answer))) → filled B nm o buf img x (view B img) .buffer ≡ buf
+    go consistent u = cond-no (granted (transferView B (view B img) nm o (length buf))) _ buf u
+    go (broken num p) u = refl
 
--- the answer is a count exactly where neither 14 nor 15 is given
-transfer-core : (slot all size o n c : ℕ) → cond (not (ltb slot all)) (refused 14 0) (cond (ltb size o) (refused 15 0) (value n)) ≡ value c → (slot < all) × (o ≤ size) × (c ≡ n)
-transfer-core slot all size o n c e =
-    let a14 = value-step (not (ltb slot all)) 14 _ c e in
-    let a15 = value-step (ltb size o) 15 (value n) c (a14 .1) in
-    (ltb→lt slot all (not-not (ltb slot all) (a14 .0)), nltb→le size o (a15 .0), sym (same-value n c (a15 .1)))
+-- ---- of the file in slot s
+module _ (B : ℕ) (img : List ℕ) (s o : ℕ) (buf : List ℕ) where
+  abbrev v : View
+  v = view B img
 
--- what a count as the answer says
-pub transfer-means : (B : ℕ) (v : View) (h o len c : ℕ) → transferView B v h o len ≡ value c → Transfer B v h o len c
-unfolding transferView counted
-transfer-means B v h o len c e =
-    let s : ℕ = slotWith B v h in
-    let r : (s < slots B) × (o ≤ size v s) × (c ≡ min len (size v s - o)) = transfer-core s (slots B) (size v s) o (min len (size v s - o)) c e in
-    let hit : File B v s × (inode v s ≡ h) = handle-hit B v h (r .0) in
-    record { file = hit .0; handle = hit .1; within = r .1; count = r .2 }
+  abbrev bytes : List ℕ
+  bytes = content B (view B img) img s
 
--- ---- read
-read-granted : (verdict : Verdict) (a : Answer) (img full buf : List ℕ) (c : ℕ) → checked verdict (refuse img buf) (record { answer = a; image = img; buffer = cond (granted a) full buf }) .answer ≡ value c → (a ≡ value c) × (checked verdict (refuse img buf) (record { answer = a; image = img; buffer = cond (granted a) full buf }) .buffer ≡ full)
-read-granted consistent a img full buf c e = (e, ap (λ (x : Answer). cond (granted x) full buf) e)
-read-granted (broken num p) a img full buf c e = absurd (let z : _≡_ {A = ℕ} 0 1 = cc in omega arith)
+  abbrev c : ℕ
+  c = min (length buf) (size (view B img) s - o)
 
-read-left : (verdict : Verdict) (a : Answer) (img full buf : List ℕ) → T (not (granted (checked verdict (refuse img buf) (record { answer = a; image = img; buffer = cond (granted a) full buf }) .answer))) → checked verdict (refuse img buf) (record { answer = a; image = img; buffer = cond (granted a) full buf }) .buffer ≡ buf
-read-left consistent a img full buf t = cond-no (granted a) full buf t
-read-left (broken num p) a img full buf t = refl
+  -- what read puts into the buffer is a stretch of the content
+  got : table (λ p. getD img (place B v s p) 0) o c ≡ take (length buf) (drop o bytes)
+  unfolding content
+  got =
+      let left : length (drop o bytes) ≡ size v s - o = length-drop o bytes ∙ ap (λ (n : ℕ). n - o) (length-content B v img s) in
+      let e : min (length (drop o bytes)) (length buf) ≡ c = omega arith in
+      table-stretch (λ p. getD img (place B v s p) 0) o c (size v s) (omega arith)
+      ∙ ap (λ (n : ℕ). take n (drop o bytes)) (sym e)
+      ∙ take-min (length buf) (drop o bytes)
 
-module _ (B : ℕ) (img : List ℕ) (h o : ℕ) (buf : List ℕ) where
-  -- of every granted read
-  pub read-law : (c : ℕ) → read B img h o buf .answer ≡ value c → ReadLaws B img h o buf c
-  unfolding read readBuffer counted content
-  read-law c e =
-      let v : View = view B img in
-      let s : ℕ = slotWith B v h in
-      let f : ℕ → ℕ = λ p. getD img (place B v s p) 0 in
-      let r = read-granted (check B img) (transferView B v h o (length buf)) img (readBuffer B v img s o buf) buf c e in
-      let t : Transfer B v h o (length buf) c = transfer-means B v h o (length buf) c (r .0) in
-      record {
-        slot = s;
-        file = record { file = t .file; number = t .handle };
-        within = t .within;
-        count = t .count;
-        buffer = r .1
-            ∙ ap (λ (k : ℕ). table f o k ++ drop k buf) (sym (t .count))
-            ∙ ap (λ (x : List ℕ). x ++ drop c buf) (table-stretch f o c (size v s) (omega (arith, t .count)));
-      }
+  buffer-is : readBuffer B v img s o buf ≡ readOn (some bytes) o buf
+  unfolding readBuffer counted
+  buffer-is =
+      let long : length (take (length buf) (drop o bytes)) ≡ c = ap length (sym got) ∙ length-table (λ p. getD img (place B v s p) 0) o c in
+      ap (λ (x : List ℕ). x ++ drop c buf) got ∙ ap (λ (n : ℕ). take (length buf) (drop o bytes) ++ drop n buf) (sym long)
 
-  -- "A refusal leaves .. lent buffers unchanged"
-  pub read-refused : T (not (granted (read B img h o buf .answer))) → read B img h o buf .buffer ≡ buf
-  unfolding read
-  read-refused t =
-      read-left (check B img) (transferView B (view B img) h o (length buf)) img (readBuffer B (view B img) img (slotWith B (view B img) h) o buf) buf t
+  -- refused, it would put nothing
+  nothing : size v s < o → readBuffer B v img s o buf ≡ buf
+  unfolding readBuffer counted
+  nothing l = let e : c ≡ 0 = omega arith in ap (λ (n : ℕ). table (λ p. getD img (place B v s p) 0) o n ++ drop n buf) e
+
+  filled-is : cond (granted (transferAnswer v s o (length buf))) (readBuffer B v img s o buf) buf ≡ readBuffer B v img s o buf
+  unfolding transferAnswer
+  filled-is =
+      by-test (ltb (size v s) o)
+      (λ t. ap (λ (a : Answer). cond (granted a) (readBuffer B v img s o buf) buf) (cond-yes (ltb (size v s) o) (refused 15 0) _ t) ∙ sym (nothing (ltb→lt (size v s) o t)))
+      (λ t. ap (λ (a : Answer). cond (granted a) (readBuffer B v img s o buf) buf) (cond-no (ltb (size v s) o) (refused 15 0) _ t))
+
+  pub answer-is : (len : ℕ) → transferAnswer v s o len ≡ transferOn (some bytes) o len
+  unfolding transferAnswer counted
+  answer-is len =
+      ap (λ (n : ℕ). cond (ltb n o) (refused 15 0) (value (min len (n - o)))) (sym (length-content B v img s))
+
+  pub file-is : readFile B img s o buf ≡ readBy (some bytes) img o buf
+  file-is = λ i. record { answer = answer-is (length buf) i; image = img; buffer = (filled-is ∙ buffer-is) i }
+
+-- ---- by name
+module _ (B : ℕ) (sz : BlockSize B) (img : List ℕ) (ok : Consistent B img) where
+  abbrev w : View
+  w = view B img
+
+  passed : check B img ≡ consistent
+  passed = check-means B sz img .1 ok
+
+  module _ (nm : List ℕ) (named : NameRule nm) where
+    -- a lookup by what stands under the name
+    by-standing : (P : Lookup → Option (List ℕ) → Type 0) → P (Lookup.denied 13) Option.none → ((s : ℕ) → P (Lookup.inSlot s) (some (content B w img s))) → P (lookup B w nm) (contents B img nm)
+    by-standing P none there =
+        by-lookup B w nm (λ (x : Lookup). P x (contents B img nm)) (λ t. absurd (T-not (nameAllowed nm) t (name-allowed nm .1 named)))
+        (λ t l. subst (P (Lookup.denied 13)) (sym (stands-not B img nm l)) none)
+        (λ t l. subst (P (Lookup.inSlot (slotOf B w nm))) (sym (stands B img nm (slotOf B w nm) refl l)) (there (slotOf B w nm)))
+
+    pub read-by : (o : ℕ) (buf : List ℕ) → read B img nm o buf ≡ readBy (contents B img nm) img o buf
+    unfolding read
+    read-by o buf =
+        ap (λ (x : Verdict). checked x (refuse img buf) (readStep B img nm o buf)) passed
+        ∙ by-standing (λ (x : Lookup) (c : Option (List ℕ)). looked x (refuse img buf) (λ s. readFile B img s o buf) ≡ readBy c img o buf) refl (λ s. file-is B img s o buf)
+
+    pub write-by : (o : ℕ) (bs : List ℕ) → write B img nm o bs .answer ≡ transferOn (contents B img nm) o (length bs)
+    unfolding transferView
+    write-by o bs =
+        write-answer B img nm o bs passed
+        ∙ by-standing (λ (x : Lookup) (c : Option (List ℕ)). looked x refused (λ s. transferAnswer w s o (length bs)) ≡ transferOn c o (length bs)) refl (λ s. answer-is B img s o bs (length bs))
+
+  misnamed : (nm : List ℕ) → (NameRule nm → ⊥) → (o : ℕ) (buf : List ℕ) → (read B img nm o buf ≡ refuse img buf 8 0) × (write B img nm o buf ≡ refuse img [] 8 0)
+  unfolding read write
+  misnamed nm bad o buf =
+      let e = lookup-misnamed B w nm (not-T (nameAllowed nm) (λ t. bad (name-allowed nm .0 t))) in (
+        ap (λ (x : Verdict). checked x (refuse img buf) (readStep B img nm o buf)) passed ∙ ap (λ (x : Lookup). looked x (refuse img buf) (λ s. readFile B img s o buf)) e,
+        ap (λ (x : Verdict). checked x (refuse img []) (writeStep B img nm o buf)) passed ∙ ap (λ (x : Lookup). looked x (refuse img []) (λ s. writeFile B img s o buf)) e,
+      )
+
+  pub transfer-law : TransferLaws B img
+  transfer-law = record { misnamed = misnamed; reads = read-by; writes = write-by }
 
 -- ---- what a write covers
 count-some : (a : Answer) → 1 ≤ countOf a → a ≡ value (countOf a)
@@ -109,33 +149,16 @@ count-some unused h = absurd (omega arith)
 count-some (file nm i z) h = absurd (omega arith)
 count-some (refused num p) h = absurd (omega arith)
 
-module _ (B : ℕ) (sz : BlockSize B) (img : List ℕ) (ok : Consistent B img) (w : Write) (s p : ℕ) where
-  abbrev a : Answer
-  a = request B img w .answer
-
-  passed : check B img ≡ consistent
-  passed = check-means B sz img .1 ok
-
-  covered : T (coversAt B img w s p) → Handled B (view B img) (w .handle) s × (c : ℕ) × (request B img w .answer ≡ value c) × (w .offset ≤ p) × (p < w .offset + c)
-  unfolding coversAt
-  covered t =
-      let at : slotWith B (view B img) (w .handle) ≡ s = eqb→eq _ s (and-l (eqb (slotWith B (view B img) (w .handle)) s) _ t) in
-      let u = and-r (eqb (slotWith B (view B img) (w .handle)) s) _ t in
+pub covers : (B : ℕ) (img : List ℕ) (w : Write) (nm : List ℕ) (p : ℕ) → T (coversAt B img w nm p) ↔ (T (sameName (w .name) nm) × (c : ℕ) × (request B img w .answer ≡ value c) × (w .offset ≤ p) × (p < w .offset + c))
+unfolding coversAt
+covers B img w nm p = (
+  (λ t.
+      let u = and-r (sameName (w .name) nm) _ t in
       let from : w .offset ≤ p = leb→le (w .offset) p (and-l (leb (w .offset) p) _ u) in
       let upto : p < w .offset + countOf (request B img w .answer) = ltb→lt p _ (and-r (leb (w .offset) p) _ u) in
-      let e : request B img w .answer ≡ value (countOf (request B img w .answer)) = count-some (request B img w .answer) (omega arith) in
-      let m : Transfer B (view B img) (w .handle) (w .offset) (length (w .bytes)) (countOf (request B img w .answer)) =
-      transfer-means B (view B img) (w .handle) (w .offset) (length (w .bytes)) _ (sym (request-answer B img passed w) ∙ e)
-      in
-      (subst (Handled B (view B img) (w .handle)) at (record { file = m .file; number = m .handle }), countOf (request B img w .answer), e, from, upto)
-
-  pub covers : T (coversAt B img w s p) ↔ (Handled B (view B img) (w .handle) s × (c : ℕ) × (request B img w .answer ≡ value c) × (w .offset ≤ p) × (p < w .offset + c))
-  unfolding coversAt
-  covers = (
-    covered,
-    λ g.
-        let at : slotWith B (view B img) (w .handle) ≡ s = handle-is B (view B img) (w .handle) (ok .sound) s (g .0 .file) (g .0 .number) in
-        let n : countOf (request B img w .answer) ≡ g .1 = ap countOf (g .2) in
-        and-of (eqb (slotWith B (view B img) (w .handle)) s) _ (eqb-of at)
-        (and-of (leb (w .offset) p) _ (le→leb (w .offset) p (g .3)) (lt→ltb p _ (omega (arith, g .4, n)))),
-  )
+      (and-l (sameName (w .name) nm) _ t, countOf (request B img w .answer), count-some (request B img w .answer) (omega arith), from, upto)),
+  λ g.
+      let n : countOf (request B img w .answer) ≡ g .1 = ap countOf (g .2) in
+      and-of (sameName (w .name) nm) _ (g .0)
+      (and-of (leb (w .offset) p) _ (le→leb (w .offset) p (g .3)) (lt→ltb p _ (omega (arith, g .4, n)))),
+)

@@ -1,6 +1,6 @@
 -- What holds of every request, request by request.
 use mathlib.Core.Path.{_≡_, refl, sym, _∙_, ap, ap₂, subst}
-use mathlib.Core.Logic.{_≢_, _↔_}
+use mathlib.Core.Logic.{_≢_, _↔_, _⊎_, inl, inr, ⊎-elim}
 use mathlib.Core.Bool.{not}
 use Prim.Native.Nat.{ℕ, _≤_}
 use mathlib.Core.List.{List, []}
@@ -10,14 +10,16 @@ use lib.Dec.{T}
 use Rattle.tfs_spec.specs.Layout.{BlockSize, view}
 use Rattle.tfs_spec.specs.Check.{Verdict, consistent, broken, check}
 use Rattle.tfs_spec.specs.Consistent.{Consistent, FirstBroken}
-use Rattle.tfs_spec.specs.Requests.{Answer, done, value, unused, file, refused, granted, Outcome, refuse, checked, checkAnswer, openAnswer, create, remove, read, write, listAnswer, freeAnswer, Change, creates, removes, writes, perform, Request, changes, checks, opens, reads, lists, counts, lent, reply}
+use Rattle.tfs_spec.specs.Requests.{Answer, done, value, unused, file, refused, granted, Outcome, refuse, checked, format, checkAnswer, create, remove, read, write, listAnswer, freeAnswer, Change, creates, removes, writes, perform, Request, changes, checks, reads, lists, counts, lent, reply, Operation, formats, requests, operate}
 use Rattle.tfs_spec.specs.Answers.{Rule}
 use Rattle.tfs_spec.specs.Effects.{SameRead, Beyond, SameVolume, Kept}
 use Rattle.tfs_facts.specs.CheckMeans.{check-means, check-breaks}
 use Rattle.tfs_proofs.specs.Changes.{refused-keeps}
+use Rattle.tfs_proofs.specs.Formats.{by-format}
+use Rattle.tfs_proofs.specs.Transfers.{read-image, write-as}
 use Rattle.tfs_proofs.specs.Reads.{read-refused}
 use Rattle.tfs_proofs.specs.Grants.{rule-reply}
-use Rattle.tfs_proofs.specs.Answers.{Numbered, broken-numbered, find-numbered, create-numbered, transfer-numbered, list-numbered}
+use Rattle.tfs_proofs.specs.Answers.{Numbered, Other, other-numbered, broken-other, find-other, create-other, transfer-other, list-numbered}
 use Rattle.tfs_proofs.specs.Kept.{create-kept, remove-kept, write-kept}
 use Rattle.tfs_proofs.specs.Ignored.{ignored}
 use Rattle.tfs_proofs.specs.Tail.{tail-kept, tail-unread}
@@ -50,64 +52,65 @@ faulty B sz img bad = go (check B img) refl
     go (broken num p) e = (num, p, check-breaks B sz img num p .0 e)
 
 pub fault-reply : (B : ℕ) → BlockSize B → (img : List ℕ) (num p : ℕ) → FirstBroken B img num p → (r : Request) → reply B img r ≡ refuse img (lent r) num p
-unfolding perform create remove write checkAnswer openAnswer read listAnswer freeAnswer
+unfolding perform create remove write checkAnswer read listAnswer freeAnswer
 fault-reply B sz img num p first (changes (creates nm z)) = rw (check-breaks B sz img num p .1 first)
 fault-reply B sz img num p first (changes (removes nm)) = rw (check-breaks B sz img num p .1 first)
-fault-reply B sz img num p first (changes (writes h o bs)) = rw (check-breaks B sz img num p .1 first)
+fault-reply B sz img num p first (changes (writes nm o bs)) = rw (check-breaks B sz img num p .1 first)
 fault-reply B sz img num p first checks = rw (check-breaks B sz img num p .1 first)
-fault-reply B sz img num p first (opens nm) = rw (check-breaks B sz img num p .1 first)
-fault-reply B sz img num p first (reads h o buf) = rw (check-breaks B sz img num p .1 first)
+fault-reply B sz img num p first (reads nm o buf) = rw (check-breaks B sz img num p .1 first)
 fault-reply B sz img num p first (lists s) = rw (check-breaks B sz img num p .1 first)
 fault-reply B sz img num p first counts = rw (check-breaks B sz img num p .1 first)
 
 -- ---- the numbers of refusals
-rule-numbered : (B : ℕ) (img : List ℕ) (r : Request) (a : Answer) → Rule B (view B img) r a → Numbered a
-rule-numbered B img (changes (creates nm z)) a w = create-numbered B (view B img) nm z a w
-rule-numbered B img (changes (removes nm)) a w = find-numbered B (view B img) nm (λ s. done) (λ s. tt) a w
-rule-numbered B img (changes (writes h o bs)) a w = transfer-numbered B (view B img) h o (length bs) a w
-rule-numbered B img checks a w = subst Numbered w tt
-rule-numbered B img (opens nm) a w = find-numbered B (view B img) nm _ (λ s. tt) a w
-rule-numbered B img (reads h o buf) a w = transfer-numbered B (view B img) h o (length buf) a w
-rule-numbered B img (lists s) a w = list-numbered B (view B img) s a w
-rule-numbered B img counts a w = subst Numbered w tt
+-- another number than 14, or list's
+abbrev Told : Request → Answer → Type 0
+Told r a = Other a ⊎ ((s : ℕ) × (r ≡ lists s) × Numbered a)
 
-pub numbered : (B : ℕ) → BlockSize B → (img : List ℕ) (r : Request) (num p : ℕ) → reply B img r .answer ≡ refused num p → (1 ≤ num) × (num ≤ 15) × (8 ≤ num → p ≡ 0)
-numbered B sz img r num p e = subst Numbered e (go (check B img) refl)
+rule-told : (B : ℕ) (img : List ℕ) (r : Request) (a : Answer) → Rule B (view B img) r a → Told r a
+rule-told B img (changes (creates nm z)) a w = inl (create-other B (view B img) nm z a w)
+rule-told B img (changes (removes nm)) a w = inl (find-other B (view B img) nm _ (λ s b e. subst Other e tt) a w)
+rule-told B img (changes (writes nm o bs)) a w = inl (find-other B (view B img) nm _ (transfer-other (view B img) o (length bs)) a w)
+rule-told B img checks a w = inl (subst Other w tt)
+rule-told B img (reads nm o buf) a w = inl (find-other B (view B img) nm _ (transfer-other (view B img) o (length buf)) a w)
+rule-told B img (lists s) a w = inr (s, refl, list-numbered B (view B img) s a w)
+rule-told B img counts a w = inl (subst Other w tt)
+
+told-reply : (B : ℕ) → BlockSize B → (img : List ℕ) (r : Request) → Told r (reply B img r .answer)
+told-reply B sz img r = go (check B img) refl
   where
-    go : (x : Verdict) → check B img ≡ x → Numbered (reply B img r .answer)
-    go consistent e = rule-numbered B img r (reply B img r .answer) (rule-reply B sz img (check-means B sz img .0 e) r (reply B img r .answer) .0 refl)
+    go : (x : Verdict) → check B img ≡ x → Told r (reply B img r .answer)
+    go consistent e = rule-told B img r (reply B img r .answer) (rule-reply B sz img (check-means B sz img .0 e) r (reply B img r .answer) .0 refl)
     go (broken num p) e =
         let first : FirstBroken B img num p = check-breaks B sz img num p .0 e in
-        subst Numbered (sym (ap (λ x. x .answer) (fault-reply B sz img num p first r))) (broken-numbered B img num p (first .here))
+        subst (Told r) (sym (ap (λ x. x .answer) (fault-reply B sz img num p first r))) (inl (broken-other B img num p (first .here)))
 
--- ---- a change leaves no buffer, a read the image
+pub numbered : (B : ℕ) → BlockSize B → (img : List ℕ) (r : Request) (num p : ℕ) → reply B img r .answer ≡ refused num p → (1 ≤ num) × (num ≤ 15) × (8 ≤ num → p ≡ 0)
+numbered B sz img r num p e =
+    subst Numbered e (⊎-elim (other-numbered (reply B img r .answer)) (λ w. w .2) (told-reply B sz img r))
+
+pub list-only : (B : ℕ) → BlockSize B → (img : List ℕ) (r : Request) (p : ℕ) → reply B img r .answer ≡ refused 14 p → (s : ℕ) × (r ≡ lists s)
+list-only B sz img r p e =
+    ⊎-elim (λ w. absurd (subst Other e w .1 refl)) (λ w. (w .0, w .1)) (told-reply B sz img r)
+
+-- ---- a change leaves no buffer
 fills-none : (x : Verdict) (img : List ℕ) (o : Outcome) → o .buffer ≡ [] → checked x (refuse img []) o .buffer ≡ []
 fills-none consistent img o e = e
 fills-none (broken num p) img o e = refl
 
 no-buffer : (B : ℕ) (img : List ℕ) (c : Change) → perform B img c .buffer ≡ []
-unfolding perform create remove write
+unfolding perform create remove
 no-buffer B img (creates nm z) = fills-none (check B img) img _ refl
 no-buffer B img (removes nm) = fills-none (check B img) img _ refl
-no-buffer B img (writes h o bs) = fills-none (check B img) img _ refl
+no-buffer B img (writes nm o bs) = ap (λ (x : Outcome). x .buffer) (write-as B img nm o bs) ∙ fills-none (check B img) img _ refl
 
 same-buffer : (B : ℕ) (a b : List ℕ) (c : Change) → perform B a c .buffer ≡ perform B b c .buffer
 same-buffer B a b c = no-buffer B a c ∙ sym (no-buffer B b c)
-
-keeps-image : (x : Verdict) (img buf : List ℕ) (o : Outcome) → o .image ≡ img → checked x (refuse img buf) o .image ≡ img
-keeps-image consistent img buf o e = e
-keeps-image (broken num p) img buf o e = refl
-
-read-image : (B : ℕ) (img : List ℕ) (h o : ℕ) (buf : List ℕ) → read B img h o buf .image ≡ img
-unfolding read
-read-image B img h o buf = keeps-image (check B img) img buf _ refl
 
 -- ---- a refusal leaves image and buffer
 pub keeps : (B : ℕ) (img : List ℕ) (r : Request) → T (not (granted (reply B img r .answer))) → (reply B img r .image ≡ img) × (reply B img r .buffer ≡ lent r)
 keeps B img (changes c) t = (refused-keeps B img c t, no-buffer B img c)
 keeps B img checks t = (refl, refl)
-keeps B img (opens nm) t = (refl, refl)
-keeps B img (reads h o buf) t = (read-image B img h o buf, read-refused B img h o buf t)
+keeps B img (reads nm o buf) t = (read-image B img nm o buf, read-refused B img nm o buf t)
 keeps B img (lists s) t = (refl, refl)
 keeps B img counts t = (refl, refl)
 
@@ -116,40 +119,43 @@ pub kept : (B : ℕ) → BlockSize B → (img : List ℕ) (c : Change) → Kept 
 unfolding perform
 kept B sz img (creates nm z) = create-kept sz img nm z
 kept B sz img (removes nm) = remove-kept sz img nm
-kept B sz img (writes h o bs) = write-kept sz img h o bs
+kept B sz img (writes nm o bs) = write-kept sz img nm o bs
 
 pub ignored-reply : (B : ℕ) → BlockSize B → (a b : List ℕ) → SameRead B a b → (r : Request) → (reply B a r .answer ≡ reply B b r .answer) × (reply B a r .buffer ≡ reply B b r .buffer)
 unfolding perform checkAnswer
 ignored-reply B sz a b same (changes (creates nm z)) = (ignored B sz a b same .create-same nm z, same-buffer B a b (creates nm z))
 ignored-reply B sz a b same (changes (removes nm)) = (ignored B sz a b same .remove-same nm, same-buffer B a b (removes nm))
-ignored-reply B sz a b same (changes (writes h o bs)) = (ignored B sz a b same .write-same h o bs, same-buffer B a b (writes h o bs))
+ignored-reply B sz a b same (changes (writes nm o bs)) = (ignored B sz a b same .write-same nm o bs, same-buffer B a b (writes nm o bs))
 ignored-reply B sz a b same checks = (ap (λ (x : Verdict). checked x refused done) (ignored B sz a b same .check-same), refl)
-ignored-reply B sz a b same (opens nm) = (ignored B sz a b same .open-same nm, refl)
-ignored-reply B sz a b same (reads h o buf) = ignored B sz a b same .read-same h o buf
+ignored-reply B sz a b same (reads nm o buf) = ignored B sz a b same .read-same nm o buf
 ignored-reply B sz a b same (lists s) = (ignored B sz a b same .list-same s, refl)
 ignored-reply B sz a b same counts = (ignored B sz a b same .free-same, refl)
 
 -- ---- bytes from B·N on
-pub tail-kept-by : (B : ℕ) → BlockSize B → (img : List ℕ) (r : Request) → Beyond B img (reply B img r .image)
+pub tail-kept-by : (B : ℕ) → BlockSize B → (img : List ℕ) (x : Operation) → Beyond B img (operate B img x .image)
 unfolding perform
-tail-kept-by B sz img (changes (creates nm z)) = tail-kept sz img .created nm z
-tail-kept-by B sz img (changes (removes nm)) = tail-kept sz img .removed nm
-tail-kept-by B sz img (changes (writes h o bs)) = tail-kept sz img .written h o bs
-tail-kept-by B sz img checks = record { long = refl; bytes = λ q h. refl }
-tail-kept-by B sz img (opens nm) = record { long = refl; bytes = λ q h. refl }
-tail-kept-by B sz img (reads h o buf) = rw (read-image B img h o buf) (record { long = refl; bytes = λ q h. refl })
-tail-kept-by B sz img (lists s) = record { long = refl; bytes = λ q h. refl }
-tail-kept-by B sz img counts = record { long = refl; bytes = λ q h. refl }
+tail-kept-by B sz img (formats label) = tail-kept sz img .formatted label
+tail-kept-by B sz img (requests (changes (creates nm z))) = tail-kept sz img .created nm z
+tail-kept-by B sz img (requests (changes (removes nm))) = tail-kept sz img .removed nm
+tail-kept-by B sz img (requests (changes (writes nm o bs))) = tail-kept sz img .written nm o bs
+tail-kept-by B sz img (requests checks) = record { long = refl; bytes = λ q h. refl }
+tail-kept-by B sz img (requests (reads nm o buf)) = rw (read-image B img nm o buf) (record { long = refl; bytes = λ q h. refl })
+tail-kept-by B sz img (requests (lists s)) = record { long = refl; bytes = λ q h. refl }
+tail-kept-by B sz img (requests counts) = record { long = refl; bytes = λ q h. refl }
 
-pub tail-unread-by : (B : ℕ) → BlockSize B → (a b : List ℕ) → SameVolume B a b → (r : Request) → (reply B a r .answer ≡ reply B b r .answer) × (reply B a r .buffer ≡ reply B b r .buffer) × SameVolume B (reply B a r .image) (reply B b r .image)
+format-buffer : (B : ℕ) (img label : List ℕ) → format B img label .buffer ≡ []
+format-buffer B img label = by-format B img label (λ o. o .buffer ≡ []) (λ _. refl) (λ _. refl) (λ _ _. refl)
+
+pub tail-unread-by : (B : ℕ) → BlockSize B → (a b : List ℕ) → SameVolume B a b → (x : Operation) → (operate B a x .answer ≡ operate B b x .answer) × (operate B a x .buffer ≡ operate B b x .buffer) × SameVolume B (operate B a x .image) (operate B b x .image)
 unfolding perform
-tail-unread-by B sz a b same (changes (creates nm z)) = (tail-unread sz a b same .create-answer nm z, same-buffer B a b (creates nm z), tail-unread sz a b same .created nm z)
-tail-unread-by B sz a b same (changes (removes nm)) = (tail-unread sz a b same .remove-answer nm, same-buffer B a b (removes nm), tail-unread sz a b same .removed nm)
-tail-unread-by B sz a b same (changes (writes h o bs)) = (tail-unread sz a b same .write-answer h o bs, same-buffer B a b (writes h o bs), tail-unread sz a b same .written h o bs)
-tail-unread-by B sz a b same checks = (tail-unread sz a b same .check-answer, refl, same)
-tail-unread-by B sz a b same (opens nm) = (tail-unread sz a b same .open-answer nm, refl, same)
-tail-unread-by B sz a b same (reads h o buf) =
-    let r = tail-unread sz a b same .read-outcome h o buf in
-    (r .0, r .1, rw (read-image B a h o buf, read-image B b h o buf) same)
-tail-unread-by B sz a b same (lists s) = (tail-unread sz a b same .list-answer s, refl, same)
-tail-unread-by B sz a b same counts = (tail-unread sz a b same .free-answer, refl, same)
+tail-unread-by B sz a b same (formats label) =
+    (tail-unread sz a b same .format-answer label, format-buffer B a label ∙ sym (format-buffer B b label), tail-unread sz a b same .formatted label)
+tail-unread-by B sz a b same (requests (changes (creates nm z))) = (tail-unread sz a b same .create-answer nm z, same-buffer B a b (creates nm z), tail-unread sz a b same .created nm z)
+tail-unread-by B sz a b same (requests (changes (removes nm))) = (tail-unread sz a b same .remove-answer nm, same-buffer B a b (removes nm), tail-unread sz a b same .removed nm)
+tail-unread-by B sz a b same (requests (changes (writes nm o bs))) = (tail-unread sz a b same .write-answer nm o bs, same-buffer B a b (writes nm o bs), tail-unread sz a b same .written nm o bs)
+tail-unread-by B sz a b same (requests checks) = (tail-unread sz a b same .check-answer, refl, same)
+tail-unread-by B sz a b same (requests (reads nm o buf)) =
+    let r = tail-unread sz a b same .read-outcome nm o buf in
+    (r .0, r .1, rw (read-image B a nm o buf, read-image B b nm o buf) same)
+tail-unread-by B sz a b same (requests (lists s)) = (tail-unread sz a b same .list-answer s, refl, same)
+tail-unread-by B sz a b same (requests counts) = (tail-unread sz a b same .free-answer, refl, same)

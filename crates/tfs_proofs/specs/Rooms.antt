@@ -108,6 +108,6 @@ module _ (B : ℕ) (sz : BlockSize B) (img : List ℕ) (ok : Consistent B img) w
           (sym (n-same B img new (freeSlot B v) fr)) (λ t l d. sym (free-same B img new (freeSlot B v) fr t l d)) (λ t l d. sym (size-same B img new (freeSlot B v) fr t l d))
 
   -- a write, granted or refused, takes no room
-  pub written-room : (h o : ℕ) (buf : List ℕ) → freeBlocks (view B (write B img h o buf .image)) ≡ freeBlocks (view B img)
+  pub written-room : (nm : List ℕ) (o : ℕ) (buf : List ℕ) → freeBlocks (view B (write B img nm o buf .image)) ≡ freeBlocks (view B img)
   unfolding request
-  written-room h o buf = ap freeBlocks (request-view B (omega (arith, sz .large)) img passed (ok .sound) (wr h o buf))
+  written-room nm o buf = ap freeBlocks (request-view B (omega (arith, sz .large)) img passed (ok .sound) (wr nm o buf))

@@ -1,5 +1,5 @@
 -- Bytes past the last block of the volume are never read and never changed.
-use mathlib.Core.Path.{_≡_, refl, sym, ap, ap₂, _∙_, subst}
+use mathlib.Core.Path.{_≡_, refl, sym, ap, ap₂, _∙_, subst, subst₂}
 use mathlib.Core.Bool.{Bool, true, false, not, cond}
 use Prim.Native.Nat.{ℕ, suc, _+_, _-_, _*_, _/_, _≤_, _<_, min}
 use mathlib.Core.List.{List, [], _∷_, _++_}
@@ -13,14 +13,15 @@ use Rattle.lists.specs.Lists.{table, storeAt, withPart}
 use Rattle.list_laws.specs.Table.{table-cong}
 use Rattle.list_laws.specs.Store.{length-store}
 use Rattle.list_laws.specs.Part.{getD-part, getD-with-in, getD-with-before, getD-with-after}
-use Rattle.tfs_spec.specs.Layout.{BlockSize, slots, blocks, block, setBlock, slot, slotInode, inRange, labelAllowed, View, view, viewN, inodeAt, size as fileSize, number, slotWith, place, freeBlocks}
+use Rattle.tfs_spec.specs.Layout.{BlockSize, slots, blocks, block, setBlock, slot, slotInode, inRange, labelAllowed, View, view, viewN, inodeAt, size as fileSize, number, place, freeBlocks}
 use Rattle.tfs_spec.specs.Check.{Verdict, consistent, broken, check, checkView, tooShort}
 use Rattle.tfs_spec.specs.Consistent.{Sound}
 use Rattle.tfs_facts.specs.CheckMeans.{check-means}
-use Rattle.tfs_spec.specs.Requests.{Answer, done, value, granted, Outcome, checked, refuse, Store, stored, storeAll, formatStores, format, checkAnswer, openView, openAnswer, createStores, createView, create, removeStores, removeView, remove, counted, transferView, readBuffer, read, writeImage, write, listView, listAnswer, freeAnswer, refused}
+use Rattle.tfs_spec.specs.Requests.{Answer, done, value, granted, Outcome, checked, refuse, Store, stored, storeAll, formatStores, format, checkAnswer, createStores, createView, create, removeStores, removeView, remove, counted, readBuffer, read, writeImage, write, listView, listAnswer, freeAnswer, refused}
 use Rattle.tfs_facts.specs.Sizes.{after-block, in-image, in-block}
 use Rattle.tfs_facts.specs.Views.{view-n}
-use Rattle.tfs_proofs.specs.Ignored.{filled, SameFill}
+use Rattle.tfs_proofs.specs.Ignored.{SameFill}
+use Rattle.tfs_proofs.specs.Transfers.{slotFor, transferView, filled, written, read-as, write-as}
 use Rattle.tfs_proofs.specs.Places.{blocks-eq, filesOf, position}
 use Rattle.tfs_proofs.specs.Writes.{step-other}
 use Rattle.tfs_proofs.specs.WriteLists.{wr, request-image, request-length, putOf}
@@ -45,7 +46,7 @@ pub record TailKept (B : ℕ) (img : List ℕ) : Type 0 where
   pub formatted : (label : List ℕ) → Beyond B img (format B img label .image)
   pub created : (nm : List ℕ) (sz : ℕ) → Beyond B img (create B img nm sz .image)
   pub removed : (nm : List ℕ) → Beyond B img (remove B img nm .image)
-  pub written : (h o : ℕ) (buf : List ℕ) → Beyond B img (write B img h o buf .image)
+  pub written : (nm : List ℕ) (o : ℕ) (buf : List ℕ) → Beyond B img (write B img nm o buf .image)
 
 module _ (B : ℕ) (img : List ℕ) where
   beyond-same : Beyond B img img
@@ -65,16 +66,16 @@ module _ {B : ℕ} (size : BlockSize B) (img : List ℕ) where
   low-end : 3 * B ≤ length img → 3 * B ≤ blocks B img * B
   low-end h = omega (arith, after-block B 2 (blocks B img) (three B size img h))
 
-  write-beyond : (h o : ℕ) (buf : List ℕ) → check B img ≡ consistent → Beyond B img (write B img h o buf .image)
+  write-beyond : (nm : List ℕ) (o : ℕ) (buf : List ℕ) → check B img ≡ consistent → Beyond B img (write B img nm o buf .image)
   unfolding request putOf
-  write-beyond h o buf e =
+  write-beyond nm o buf e =
       let ok : Sound B (view B img) = check-means B size img .0 e .sound in
       record {
-        long = request-length B pos img e ok (wr h o buf);
+        long = request-length B pos img e ok (wr nm o buf);
         bytes = λ q l.
-            (ap (λ (x : List ℕ). getD x q 0) (request-image B img e (wr h o buf))
-            ∙ step-other (filesOf B (view B img)) img (putOf B (view B img) (wr h o buf)) q
-            (λ p k d. omega (arith, place-inside B pos img ok (slotWith B (view B img) h) p k)));
+            (ap (λ (x : List ℕ). getD x q 0) (request-image B img e (wr nm o buf))
+            ∙ step-other (filesOf B (view B img)) img (putOf B (view B img) (wr nm o buf)) q
+            (λ p k d. omega (arith, place-inside B pos img ok (slotFor B (view B img) nm) p k)));
       }
 
   -- on every image, consistent or not
@@ -88,25 +89,24 @@ module _ {B : ℕ} (size : BlockSize B) (img : List ℕ) where
             by-create B img nm sz (Beyond B img) (beyond-same B img) (λ e l. beyond-stored B img (createStores B (view B img) nm sz) (create-fits size img nm sz e l));
         removed = λ nm.
             by-remove B img nm (Beyond B img) (beyond-same B img) (λ e l. beyond-stored B img (removeStores B (view B img) nm) (remove-fits B size img (check-means B size img .0 e) nm l));
-        written = λ h o buf. by-write B img h o buf (Beyond B img) (beyond-same B img) (write-beyond h o buf);
+        written = λ nm o buf. by-write B img nm o buf (Beyond B img) (beyond-same B img) (write-beyond nm o buf);
       }
 
 -- "Bytes from 512·N on are never read": no answer, no buffer and no byte that a request leaves in the volume depends on them
 pub record TailLaw (B : ℕ) (a b : List ℕ) : Type 0 where
   pub format-answer : (label : List ℕ) → format B a label .answer ≡ format B b label .answer
   pub check-answer : checkAnswer B a ≡ checkAnswer B b
-  pub open-answer : (nm : List ℕ) → openAnswer B a nm ≡ openAnswer B b nm
   pub create-answer : (nm : List ℕ) (sz : ℕ) → create B a nm sz .answer ≡ create B b nm sz .answer
   pub remove-answer : (nm : List ℕ) → remove B a nm .answer ≡ remove B b nm .answer
-  pub write-answer : (h o : ℕ) (buf : List ℕ) → write B a h o buf .answer ≡ write B b h o buf .answer
+  pub write-answer : (nm : List ℕ) (o : ℕ) (buf : List ℕ) → write B a nm o buf .answer ≡ write B b nm o buf .answer
   pub list-answer : (s : ℕ) → listAnswer B a s ≡ listAnswer B b s
   pub free-answer : freeAnswer B a ≡ freeAnswer B b
   -- answer and buffer
-  pub read-outcome : (h o : ℕ) (buf : List ℕ) → SameFill (read B a h o buf) (read B b h o buf)
+  pub read-outcome : (nm : List ℕ) (o : ℕ) (buf : List ℕ) → SameFill (read B a nm o buf) (read B b nm o buf)
   pub formatted : (label : List ℕ) → SameVolume B (format B a label .image) (format B b label .image)
   pub created : (nm : List ℕ) (sz : ℕ) → SameVolume B (create B a nm sz .image) (create B b nm sz .image)
   pub removed : (nm : List ℕ) → SameVolume B (remove B a nm .image) (remove B b nm .image)
-  pub written : (h o : ℕ) (buf : List ℕ) → SameVolume B (write B a h o buf .image) (write B b h o buf .image)
+  pub written : (nm : List ℕ) (o : ℕ) (buf : List ℕ) → SameVolume B (write B a nm o buf .image) (write B b nm o buf .image)
 
 -- the blocks of a view decide it
 viewN-same : (B n : ℕ) (a b : List ℕ) → 3 ≤ n → ((i : ℕ) → i < n → block B a i ≡ block B b i) → viewN B n a ≡ viewN B n b
@@ -170,6 +170,20 @@ agree-bytes at end (x ∷ bs) a b o low la lb same =
     (rw length-set la) (rw length-set lb) (agree-set end a b (at o) x (low o (omega arith) (omega arith)) la lb same)
 
 -- an answer does not tell the image
+-- what format answers is told by length and label
+pub format-answer : (B : ℕ) (a b label : List ℕ) → tooShort B a ≡ tooShort B b → format B a label .answer ≡ format B b label .answer
+unfolding format
+format-answer B a b label e =
+    ap (λ (x : Bool). cond x (refuse a [] 1 0) (cond (not (labelAllowed label)) (refuse a [] 8 0) (after a)) .answer) e ∙ still (tooShort B b) (not (labelAllowed label))
+  where
+    after : List ℕ → Outcome
+    after img = record { answer = done; image = storeAll B img (formatStores B label); buffer = [] }
+
+    still : (x y : Bool) → cond x (refuse a [] 1 0) (cond y (refuse a [] 8 0) (after a)) .answer ≡ cond x (refuse b [] 1 0) (cond y (refuse b [] 8 0) (after b)) .answer
+    still true y = refl
+    still false true = refl
+    still false false = refl
+
 outcome-answer : (x : Verdict) (img : List ℕ) (o : Outcome) → checked x (refuse img []) o .answer ≡ checked x refused (o .answer)
 outcome-answer consistent img o = refl
 outcome-answer (broken num p) img o = refl
@@ -284,12 +298,7 @@ module _ {B : ℕ} (size : BlockSize B) (a b : List ℕ) (same : SameVolume B a 
       (same-outcome (check B b) (removeView B (view B b) nm) (removeStores B (view B b) nm)
       (λ e g. remove-fits B size b (check-means B size b .0 e) nm (remove-granted B b e nm (subst (λ (o : Outcome). T (granted (o .answer))) (sym (remove-is B b e nm)) g))))
 
-  module _ (h o : ℕ) (buf : List ℕ) where
-    abbrev written : List ℕ → Verdict → View → Outcome
-    written img x v =
-        checked x (refuse img [])
-        (record { answer = transferView B v h o (length buf); image = cond (granted (transferView B v h o (length buf))) (writeImage B v img (slotWith B v h) o buf) img; buffer = [] })
-
+  module _ (nm : List ℕ) (o : ℕ) (buf : List ℕ) where
     -- a position that a transfer reaches is one of its file
     reached : Sound B (view B b) → (s c p : ℕ) → c ≤ fileSize (view B b) s - o → o ≤ p → p < o + c → place B (view B b) s p < end
     reached ok s c p k l m = place-inside B (pos size b) b ok s p (omega arith)
@@ -312,54 +321,36 @@ module _ {B : ℕ} (size : BlockSize B) (a b : List ℕ) (same : SameVolume B a 
         (table-cong (λ p. getD a (place B (view B b) s p) 0) (λ p. getD b (place B (view B b) s p) 0) o c
         (λ p l m. agree (place B (view B b) s p) (reached ok s c p (omega arith) l m)))
 
-    write-same : SameVolume B (write B a h o buf .image) (write B b h o buf .image)
-    unfolding write
+    write-same : SameVolume B (write B a nm o buf .image) (write B b nm o buf .image)
     write-same =
-        subst (λ (x : List ℕ). SameVolume B x (write B b h o buf .image)) (sym (alike (λ (x : Verdict) (v : View). written a x v .image) (λ num p v w. refl)))
-        (go (check B b) refl)
+        subst₂ (λ (x y : Outcome). SameVolume B (x .image) (y .image)) (sym (write-as B a nm o buf)) (sym (write-as B b nm o buf))
+        (subst (λ (x : List ℕ). SameVolume B x (written B nm o buf b (check B b) (view B b) .image)) (sym (alike (λ (x : Verdict) (v : View). written B nm o buf a x v .image) (λ num p v w. refl)))
+        (go (check B b) refl))
       where
-        put : Sound B (view B b) → (g : Bool) → SameVolume B (cond g (writeImage B (view B b) a (slotWith B (view B b) h) o buf) a) (cond g (writeImage B (view B b) b (slotWith B (view B b) h) o buf) b)
-        put ok true = same-write ok (slotWith B (view B b) h)
+        put : Sound B (view B b) → (g : Bool) → SameVolume B (cond g (writeImage B (view B b) a (slotFor B (view B b) nm) o buf) a) (cond g (writeImage B (view B b) b (slotFor B (view B b) nm) o buf) b)
+        put ok true = same-write ok (slotFor B (view B b) nm)
         put ok false = same
 
-        go : (x : Verdict) → check B b ≡ x → SameVolume B (written a x (view B b) .image) (written b x (view B b) .image)
-        go consistent e = put (check-means B size b .0 e .sound) (granted (transferView B (view B b) h o (length buf)))
+        go : (x : Verdict) → check B b ≡ x → SameVolume B (written B nm o buf a x (view B b) .image) (written B nm o buf b x (view B b) .image)
+        go consistent e = put (check-means B size b .0 e .sound) (granted (transferView B (view B b) nm o (length buf)))
         go (broken num p) e = same
 
-    read-same : SameFill (read B a h o buf) (read B b h o buf)
-    unfolding read
+    read-same : SameFill (read B a nm o buf) (read B b nm o buf)
     read-same =
-        subst (λ (x : Outcome). SameFill x (read B b h o buf)) (sym (alike (filled B h o buf a) (λ num p v w. refl))) (go (check B b) refl)
+        subst₂ SameFill (sym (read-as B a nm o buf ∙ alike (filled B nm o buf a) (λ num p v w. refl))) (sym (read-as B b nm o buf)) (go (check B b) refl)
       where
-        go : (x : Verdict) → check B b ≡ x → SameFill (filled B h o buf a x (view B b)) (filled B h o buf b x (view B b))
+        go : (x : Verdict) → check B b ≡ x → SameFill (filled B nm o buf a x (view B b)) (filled B nm o buf b x (view B b))
         go consistent e =
-            (refl, ap (λ (x : List ℕ). cond (granted (transferView B (view B b) h o (length buf))) x buf) (same-read (check-means B size b .0 e .sound) (slotWith B (view B b) h)))
+            (refl, ap (λ (x : List ℕ). cond (granted (transferView B (view B b) nm o (length buf))) x buf) (same-read (check-means B size b .0 e .sound) (slotFor B (view B b) nm)))
         go (broken num p) e = (refl, refl)
-
-  format-alike : (label : List ℕ) → format B a label .answer ≡ format B b label .answer
-  unfolding format
-  format-alike label =
-      ap (λ (x : Bool). formatted a x .answer) short-alike ∙ still (tooShort B b) (not (labelAllowed label))
-    where
-      after : List ℕ → Outcome
-      after img = record { answer = done; image = storeAll B img (formatStores B label); buffer = [] }
-
-      formatted : List ℕ → Bool → Outcome
-      formatted img x = cond x (refuse img [] 1 0) (cond (not (labelAllowed label)) (refuse img [] 8 0) (after img))
-
-      still : (x y : Bool) → cond x (refuse a [] 1 0) (cond y (refuse a [] 8 0) (after a)) .answer ≡ cond x (refuse b [] 1 0) (cond y (refuse b [] 8 0) (after b)) .answer
-      still true y = refl
-      still false true = refl
-      still false false = refl
 
   -- on every two images with one volume, consistent or not
   pub tail-unread : TailLaw B a b
-  unfolding checkAnswer openAnswer create remove write listAnswer freeAnswer
+  unfolding checkAnswer create remove listAnswer freeAnswer
   tail-unread =
       record {
-        format-answer = format-alike;
+        format-answer = λ label. format-answer B a b label short-alike;
         check-answer = alike (λ (x : Verdict) (v : View). checked x refused done) (λ num p v w. refl);
-        open-answer = λ nm. alike (λ (x : Verdict) (v : View). checked x refused (openView B v nm)) (λ num p v w. refl);
         create-answer = λ nm sz.
             (outcome-answer (check B a) a (stored B a (createView B (view B a) nm sz) (createStores B (view B a) nm sz))
             ∙ alike (λ (x : Verdict) (v : View). checked x refused (createView B v nm sz)) (λ num p v w. refl)
@@ -368,10 +359,12 @@ module _ {B : ℕ} (size : BlockSize B) (a b : List ℕ) (same : SameVolume B a 
             (outcome-answer (check B a) a (stored B a (removeView B (view B a) nm) (removeStores B (view B a) nm))
             ∙ alike (λ (x : Verdict) (v : View). checked x refused (removeView B v nm)) (λ num p v w. refl)
             ∙ sym (outcome-answer (check B b) b (stored B b (removeView B (view B b) nm) (removeStores B (view B b) nm))));
-        write-answer = λ h o buf.
-            (outcome-answer (check B a) a _
-            ∙ alike (λ (x : Verdict) (v : View). checked x refused (transferView B v h o (length buf))) (λ num p v w. refl)
-            ∙ sym (outcome-answer (check B b) b _));
+        write-answer = λ nm o buf.
+            (ap (λ (x : Outcome). x .answer) (write-as B a nm o buf)
+            ∙ outcome-answer (check B a) a _
+            ∙ alike (λ (x : Verdict) (v : View). checked x refused (transferView B v nm o (length buf))) (λ num p v w. refl)
+            ∙ sym (outcome-answer (check B b) b _)
+            ∙ sym (ap (λ (x : Outcome). x .answer) (write-as B b nm o buf)));
         list-answer = λ s. alike (λ (x : Verdict) (v : View). checked x refused (listView B v s)) (λ num p v w. refl);
         free-answer = alike (λ (x : Verdict) (v : View). checked x refused (value (B * freeBlocks v))) (λ num p v w. refl);
         read-outcome = read-same;

@@ -29,8 +29,7 @@ use Rattle.tfs_facts.specs.Entries.{length-entry, allowed, inode-size, inode-nu
 use Rattle.tfs_facts.specs.Chosen.{CreateGrant, Choice, choice}
 use Rattle.tfs_proofs.specs.Creates as made
 use Rattle.tfs_proofs.specs.Removes as removed
-use Rattle.tfs_proofs.specs.Changes.{Passed, create-granted, create-image, remove-granted, remove-image}
-use Rattle.tfs_proofs.specs.Handles.{answered}
+use Rattle.tfs_proofs.specs.Changes.{Passed, create-granted, create-image, create-number, remove-granted, remove-image}
 use Rattle.tfs_spec.specs.Answers.{Stands}
 use Rattle.tfs_spec.specs.Effects.{Outside, BlockOf, RemoveTouch, LowestBlocks, CreateTouch}
 use Rattle.tfs_proofs.specs.Grants.{stands-at, stands-removed, vacant-hit}
@@ -185,7 +184,7 @@ module _ (B : ℕ) (sz : BlockSize B) (img : List ℕ) (ok : Consistent B img) (
         vacant = vacant-hit B w (gr .slot);
         lower = lower-taken;
         blocks = lowest-chosen;
-        handle = refl;
+        number = refl;
         marked = λ b i. (ap (λ (m : List ℕ). mapBit m b) (sym (view-map B after)) ∙ to-true (mapBit (view B after .map) b) (made.bit-in B sz img ok nm z gr b i));
         entry = ap (λ (d : List ℕ). slot d t) (sym (view-dir B after)) ∙ made.new-slot B sz img ok nm z gr;
         inode = made.new-inode B sz img ok nm z gr;
@@ -225,5 +224,5 @@ create-touches B sz img ok nm z h e =
     let v : View = view B img in (
       freeSlot B v,
       chosen B v z,
-      subst (λ (x : ℕ). CreateTouch B img (create B img nm z .image) nm z x (freeSlot B v) (chosen B v z)) (answered B sz img ok nm z h e) (created-touch B sz img ok nm z g),
+      subst (λ (x : ℕ). CreateTouch B img (create B img nm z .image) nm z x (freeSlot B v) (chosen B v z)) (create-number B img (check-means B sz img .1 ok) nm z h e) (created-touch B sz img ok nm z g),
     )

@@ -9,7 +9,7 @@ use lib.Dec.{T}
 use Rattle.tfs_spec.specs.Layout.{slots, maxSize, need, mapBit, labelAllowed, nameAllowed, View, view, free, inode, name, size, freeBlocks}
 use Rattle.tfs_spec.specs.Check.{consistent, broken, check}
 use Rattle.tfs_spec.specs.Consistent.{File, Consistent, FirstBroken}
-use Rattle.tfs_spec.specs.Requests.{Answer, done, value, unused, file, refused, granted, refuse, format, checkAnswer, creates, removes, writes, Request, changes, checks, opens, reads, lists, counts, lent, reply}
+use Rattle.tfs_spec.specs.Requests.{Answer, done, value, unused, file, refused, granted, refuse, format, checkAnswer, creates, removes, writes, Request, changes, checks, reads, lists, counts, lent, reply}
 
 -- ---- the check
 pub record CheckLaws (B : ℕ) (img : List ℕ) : Type 0 where
@@ -27,6 +27,8 @@ pub record CheckLaws (B : ℕ) (img : List ℕ) : Type 0 where
 pub record RefusalLaws (B : ℕ) (img : List ℕ) : Type 0 where
   -- "it ends with a result or one refusal from the numbered table"; "Refusals 8 to 15 have place 0"; which numbers each request gives is in its table below
   pub numbered : (r : Request) (num p : ℕ) → reply B img r .answer ≡ refused num p → (1 ≤ num) × (num ≤ 15) × (8 ≤ num → p ≡ 0)
+  -- "14 remains for list only"
+  pub list-only : (r : Request) (p : ℕ) → reply B img r .answer ≡ refused 14 p → (s : ℕ) × (r ≡ lists s)
   -- "A refused request changes no byte of the image or of any buffer"
   pub keeps : (r : Request) → T (not (granted (reply B img r .answer))) → (reply B img r .image ≡ img) × (reply B img r .buffer ≡ lent r)
   pub format-keeps : (label : List ℕ) → T (not (granted (format B img label .answer))) → format B img label .image ≡ img
@@ -51,11 +53,6 @@ pub record Stands (B : ℕ) (v : View) (nm : List ℕ) (s : ℕ) : Type 0 where
 abbrev pub Fresh : ℕ → View → List ℕ → Type 0
 Fresh B v nm = (s : ℕ) → Stands B v nm s → ⊥
 
--- slot s is not free and has the inode number h
-pub record Handled (B : ℕ) (v : View) (h s : ℕ) : Type 0 where
-  pub file : File B v s
-  pub number : inode v s ≡ h
-
 -- slot s is free
 pub record Vacant (B : ℕ) (v : View) (s : ℕ) : Type 0 where
   pub slot : s < slots B
@@ -67,17 +64,16 @@ pub record LowestBlock (v : View) (h : ℕ) : Type 0 where
   pub clear : mapBit (v .map) h ≡ false
   pub marked : (i : ℕ) → i < h → mapBit (v .map) i ≡ true
 
--- open and remove
-pub data FindRule (B : ℕ) (v : View) (nm : List ℕ) (grant : ℕ → Answer) : Answer → Type 0 where
+-- remove, read and write: the lookup, then the request's own table for the file in slot s
+pub data FindRule (B : ℕ) (v : View) (nm : List ℕ) (own : ℕ → Answer → Type 0) : Answer → Type 0 where
   -- 8: "name empty, over 15 bytes, or holding a zero byte"
-  misnamed : (NameRule nm → ⊥) → FindRule B v nm grant (refused 8 0)
+  misnamed : (NameRule nm → ⊥) → FindRule B v nm own (refused 8 0)
   -- 13: "name doesn't stand"
-  absent : NameRule nm → Fresh B v nm → FindRule B v nm grant (refused 13 0)
-  -- granted, on the file in slot s
-  found : (s : ℕ) → NameRule nm → Stands B v nm s → FindRule B v nm grant (grant s)
+  absent : NameRule nm → Fresh B v nm → FindRule B v nm own (refused 13 0)
+  found : (s : ℕ) (a : Answer) → NameRule nm → Stands B v nm s → own s a → FindRule B v nm own a
 
 pub data CreateRule (B : ℕ) (v : View) (nm : List ℕ) (z : ℕ) : Answer → Type 0 where
-  -- 8: as for open and remove
+  -- 8: as for remove, read and write
   unnamed : (NameRule nm → ⊥) → CreateRule B v nm z (refused 8 0)
   -- 9: "size over 65,024"
   oversized : NameRule nm → maxSize B < z → CreateRule B v nm z (refused 9 0)
@@ -90,14 +86,12 @@ pub data CreateRule (B : ℕ) (v : View) (nm : List ℕ) (z : ℕ) : Answer → 
   -- granted: "lowest free block becomes the inode"; "Result: the inode number"
   created : (s h : ℕ) → NameRule nm → z ≤ maxSize B → Fresh B v nm → Vacant B v s → 1 + need B z ≤ freeBlocks v → LowestBlock v h → CreateRule B v nm z (value h)
 
--- read and write
-pub data TransferRule (B : ℕ) (v : View) (h o len : ℕ) : Answer → Type 0 where
-  -- 14: "handle is no used slot's inode number"
-  unhandled : ((s : ℕ) → Handled B v h s → ⊥) → TransferRule B v h o len (refused 14 0)
+-- read and write, of the file in slot s
+pub data TransferRule (v : View) (o len s : ℕ) : Answer → Type 0 where
   -- 15: "offset greater than size"
-  beyond : (s : ℕ) → Handled B v h s → size v s < o → TransferRule B v h o len (refused 15 0)
+  beyond : size v s < o → TransferRule v o len s (refused 15 0)
   -- granted: "count = smaller of buffer length and size − offset"
-  moved : (s : ℕ) → Handled B v h s → o ≤ size v s → TransferRule B v h o len (value (min len (size v s - o)))
+  moved : o ≤ size v s → TransferRule v o len s (value (min len (size v s - o)))
 
 pub data ListRule (B : ℕ) (v : View) (s : ℕ) : Answer → Type 0 where
   -- 14: "slot over 24"
@@ -117,11 +111,10 @@ pub data FormatRule (B : ℕ) (img label : List ℕ) : Answer → Type 0 where
 -- the table of a request; check and free bytes have one answer each
 abbrev pub Rule : ℕ → View → Request → Answer → Type 0
 Rule B v (changes (creates nm z)) a = CreateRule B v nm z a
-Rule B v (changes (removes nm)) a = FindRule B v nm (λ s. done) a
-Rule B v (changes (writes h o bs)) a = TransferRule B v h o (length bs) a
+Rule B v (changes (removes nm)) a = FindRule B v nm (λ s b. done ≡ b) a
+Rule B v (changes (writes nm o bs)) a = FindRule B v nm (TransferRule v o (length bs)) a
 Rule B v checks a = done ≡ a
-Rule B v (opens nm) a = FindRule B v nm (λ s. value (inode v s)) a
-Rule B v (reads h o buf) a = TransferRule B v h o (length buf) a
+Rule B v (reads nm o buf) a = FindRule B v nm (TransferRule v o (length buf)) a
 Rule B v (lists s) a = ListRule B v s a
 Rule B v counts a = value (B * freeBlocks v) ≡ a
 

@@ -1,6 +1,6 @@
--- What granted requests do and what they leave, in plain facts: of demand 2 "with the effect they give and no other"; and what handles mean.
+-- What granted requests do and what they leave, in plain facts: of demand 2 "with the effect they give and no other".
 use mathlib.Core.Path.{_≡_}
-use mathlib.Core.Logic.{_⊎_, _≢_}
+use mathlib.Core.Logic.{_⊎_}
 use mathlib.Core.Bool.{true, false, not, cond, _&&_}
 use Prim.Native.Nat.{ℕ, suc, _+_, _-_, _*_, _/_, _≤_, _<_, min}
 use mathlib.Core.List.{List, _∷_, _++_, []}
@@ -8,10 +8,10 @@ use mathlib.Core.Option.{Option, none, some, Option·map}
 use lib.ListN.{length, getD, take, drop}
 use lib.Dec.{T, leb, ltb}
 use Rattle.lists.specs.Lists.{In, sum, table, joined, zeros, padTo, bytes4, words, part}
-use Rattle.tfs_spec.specs.Layout.{slots, need, blocks, block, mapBit, slot, sameName, inodeSize, inodeNumber, View, view, free, inode, name, size, number, slotWith, content, Contents, contents, freeBlocks}
+use Rattle.tfs_spec.specs.Layout.{slots, need, blocks, block, mapBit, slot, sameName, inodeSize, inodeNumber, View, view, free, inode, size, number, content, Contents, contents, freeBlocks}
 use Rattle.tfs_spec.specs.Consistent.{Bytes, File, Consistent}
-use Rattle.tfs_spec.specs.Requests.{done, value, granted, format, create, remove, read, write, Change, creates, removes, writes, perform, Request, reply, afterAll, refused, openAnswer}
-use Rattle.tfs_spec.specs.Answers.{Stands, Fresh, Handled, Vacant}
+use Rattle.tfs_spec.specs.Requests.{Answer, done, value, file, refused, granted, Outcome, refuse, format, create, remove, read, write, Change, creates, removes, writes, perform, Request, changes, reads, reply, Operation, operate, afterAll}
+use Rattle.tfs_spec.specs.Answers.{NameRule, Stands, Fresh, Vacant}
 
 -- ---- the content of files, and what stands under a name
 pub record ContentLaws (B : ℕ) (img : List ℕ) : Type 0 where
@@ -35,20 +35,19 @@ over o bs old = table (λ p. cond (leb o p && ltb p (o + length bs)) (getD bs (p
 abbrev pub effectOf : Change → Option (List ℕ) → Option (List ℕ)
 effectOf (creates nm z) old = some (zeros z)
 effectOf (removes nm) old = none
-effectOf (writes h o bs) old = Option·map (over o bs) old
+effectOf (writes nm o bs) old = Option·map (over o bs) old
 
--- the name that a request is on; "a write's name is that of the file its handle means"
-unfoldable pub nameOn : ℕ → View → Change → List ℕ
-nameOn B v (creates nm z) = nm
-nameOn B v (removes nm) = nm
-nameOn B v (writes h o bs) = name v (slotWith B v h)
+-- the name that a request is on
+abbrev pub nameOn : Change → List ℕ
+nameOn (creates nm z) = nm
+nameOn (removes nm) = nm
+nameOn (writes nm o bs) = nm
 
 pub record ChangeLaws (B : ℕ) (img : List ℕ) : Type 0 where
   -- "The volume stays consistent", whatever is asked
   pub stays : (c : Change) → Consistent B (perform B img c .image)
   -- one name changes; "other files keep their bytes"
-  pub changes : (c : Change) → T (granted (perform B img c .answer)) → (j : List ℕ) → contents B (perform B img c .image) j ≡ change (nameOn B (view B img) c) (effectOf c) (contents B img) j
-  pub name-on : (h o : ℕ) (bs : List ℕ) (s : ℕ) → Handled B (view B img) h s → nameOn B (view B img) (writes h o bs) ≡ name (view B img) s
+  pub changes : (c : Change) → T (granted (perform B img c .answer)) → (j : List ℕ) → contents B (perform B img c .image) j ≡ change (nameOn c) (effectOf c) (contents B img) j
 
 -- ---- what create, remove and format set in the image, and that all else stays
 -- bytes outside blocks 1 and 2
@@ -87,7 +86,7 @@ pub record CreateTouch (B : ℕ) (img new nm : List ℕ) (z h s : ℕ) (cs : Lis
   pub lower : (t : ℕ) → t < s → T (not (free (view B img) t))
   -- "lowest free block becomes the inode, the next lowest in rising order hold content"
   pub blocks : LowestBlocks (view B img) (1 + need B z) cs
-  pub handle : getD cs 0 0 ≡ h
+  pub number : getD cs 0 0 ≡ h
   pub marked : (b : ℕ) → In b cs → mapBit (block B new 1) b ≡ true
   -- the 20 bytes of the slot: inode number, "name padded with zeros"
   pub entry : slot (block B new 2) s ≡ bytes4 h ++ padTo 16 nm
@@ -113,9 +112,8 @@ pub record TouchLaws (B : ℕ) (img : List ℕ) : Type 0 where
 pub record FormatLaws (B : ℕ) (img label : List ℕ) : Type 0 where
   pub answer : format B img label .answer ≡ done
   pub consistent : Consistent B (format B img label .image)
-  -- no name stands, and no handle means a file
+  -- no name stands
   pub empty : (nm : List ℕ) → contents B (format B img label .image) nm ≡ none
-  pub handles : (h s : ℕ) → Handled B (view B (format B img label .image)) h s → ⊥
   -- "Zeros all of blocks 0 to 2 ..; sets magic, name and map bits 0, 1, 2. Later blocks are untouched"
   pub head : block B (format B img label .image) 0 ≡ 0 ∷ 0 ∷ 14 ∷ 161 ∷ (label ++ zeros (B - 4 - length label))
   pub map : block B (format B img label .image) 1 ≡ 0 ∷ 0 ∷ 0 ∷ 7 ∷ zeros (B - 4)
@@ -123,13 +121,26 @@ pub record FormatLaws (B : ℕ) (img label : List ℕ) : Type 0 where
   pub past : (q : ℕ) → 3 * B ≤ q → getD (format B img label .image) q 0 ≡ getD img q 0
   pub long : length (format B img label .image) ≡ length img
 
--- ---- read, granted with the count c: the file's bytes from the offset on; "Read leaves the rest of the buffer"
-pub record ReadLaws (B : ℕ) (img : List ℕ) (h o : ℕ) (buf : List ℕ) (c : ℕ) : Type 0 where
-  pub slot : ℕ
-  pub file : Handled B (view B img) h slot
-  pub within : o ≤ size (view B img) slot
-  pub count : c ≡ min (length buf) (size (view B img) slot - o)
-  pub buffer : read B img h o buf .buffer ≡ take c (drop o (content B (view B img) img slot)) ++ drop c buf
+-- ---- read and write by what stands under the name, and by nothing else
+-- what a transfer of len bytes from o on answers
+abbrev pub transferOn : Option (List ℕ) → ℕ → ℕ → Answer
+transferOn none o len = refused 13 0
+transferOn (some bytes) o len = cond (ltb (length bytes) o) (refused 15 0) (value (min len (length bytes - o)))
+
+-- what read leaves in the buffer: the bytes from o on, as many as it takes; "Read leaves the rest of the buffer"
+abbrev pub readOn : Option (List ℕ) → ℕ → List ℕ → List ℕ
+readOn none o buf = buf
+readOn (some bytes) o buf = let got : List ℕ = take (length buf) (drop o bytes) in got ++ drop (length got) buf
+
+-- what read comes to, where c stands under its name
+abbrev pub readBy : Option (List ℕ) → List ℕ → ℕ → List ℕ → Outcome
+readBy c img o buf = record { answer = transferOn c o (length buf); image = img; buffer = readOn c o buf }
+
+pub record TransferLaws (B : ℕ) (img : List ℕ) : Type 0 where
+  pub misnamed : (nm : List ℕ) → (NameRule nm → ⊥) → (o : ℕ) (buf : List ℕ) → (read B img nm o buf ≡ refuse img buf 8 0) × (write B img nm o buf ≡ refuse img [] 8 0)
+  pub reads : (nm : List ℕ) → NameRule nm → (o : ℕ) (buf : List ℕ) → read B img nm o buf ≡ readBy (contents B img nm) img o buf
+  -- what a write leaves under names is in ChangeLaws, and that no other byte changes in Laws.antt
+  pub writes : (nm : List ℕ) → NameRule nm → (o : ℕ) (bs : List ℕ) → write B img nm o bs .answer ≡ transferOn (contents B img nm) o (length bs)
 
 -- ---- what create, remove and write keep, and what no request looks at
 -- "The rest [of block 0] is ignored"; "Bits from N on are ignored and kept"; "Bytes 500..511 are ignored and kept"
@@ -161,22 +172,20 @@ pub record SameVolume (B : ℕ) (a b : List ℕ) : Type 0 where
 -- of every image, consistent or not
 pub record KeptLaws (B : ℕ) (a : List ℕ) : Type 0 where
   pub kept : (c : Change) → Kept B a (perform B a c .image)
-  -- what is ignored has no say in any answer, nor in what read gives; and however many changes come, the images they leave differ in no more
+  -- what is ignored has no say in any answer, nor in what read gives; and however many requests come, the images they leave differ in no more
   pub ignored : (b : List ℕ) → SameRead B a b → (r : Request) → (reply B a r .answer ≡ reply B b r .answer) × (reply B a r .buffer ≡ reply B b r .buffer)
-  pub ignored-after : (b : List ℕ) → SameRead B a b → (cs : List Change) → SameRead B (afterAll B a cs) (afterAll B b cs)
+  pub ignored-after : (b : List ℕ) → SameRead B a b → (xs : List Operation) → SameRead B (afterAll B a xs) (afterAll B b xs)
   -- "Bytes from 512·N on are never read or changed"
-  pub tail-kept : (r : Request) → Beyond B a (reply B a r .image)
-  pub tail-formatted : (label : List ℕ) → Beyond B a (format B a label .image)
-  pub tail-unread : (b : List ℕ) → SameVolume B a b → (r : Request) → (reply B a r .answer ≡ reply B b r .answer) × (reply B a r .buffer ≡ reply B b r .buffer) × SameVolume B (reply B a r .image) (reply B b r .image)
-  pub tail-format : (b : List ℕ) → SameVolume B a b → (label : List ℕ) → (format B a label .answer ≡ format B b label .answer) × SameVolume B (format B a label .image) (format B b label .image)
+  pub tail-kept : (x : Operation) → Beyond B a (operate B a x .image)
+  pub tail-unread : (b : List ℕ) → SameVolume B a b → (x : Operation) → (operate B a x .answer ≡ operate B b x .answer) × (operate B a x .buffer ≡ operate B b x .buffer) × SameVolume B (operate B a x .image) (operate B b x .image)
 
 -- ---- bytes stay bytes, where sizes fit into four of them
 pub record ByteLaws (B : ℕ) (img : List ℕ) : Type 0 where
   pub formatted : (label : List ℕ) → Bytes label → Bytes (format B img label .image)
   pub created : (nm : List ℕ) (z : ℕ) → Bytes nm → Bytes (create B img nm z .image)
   pub removed : (nm : List ℕ) → Bytes (remove B img nm .image)
-  pub written : (h o : ℕ) (bs : List ℕ) → Bytes bs → Bytes (write B img h o bs .image)
-  pub read-into : (h o : ℕ) (buf : List ℕ) → Bytes buf → Bytes (read B img h o buf .buffer)
+  pub written : (nm : List ℕ) (o : ℕ) (bs : List ℕ) → Bytes bs → Bytes (write B img nm o bs .image)
+  pub read-into : (nm : List ℕ) (o : ℕ) (buf : List ℕ) → Bytes buf → Bytes (read B img nm o buf .buffer)
 
 -- ---- room
 -- inodes and content blocks, "counted from the directory and inodes"
@@ -192,48 +201,4 @@ pub record RoomLaws (B : ℕ) (img : List ℕ) : Type 0 where
   -- "Room freed by remove counts for 12 at once"; create takes 1 + ⌈size/512⌉ blocks; write takes none
   pub freed : (nm : List ℕ) (s : ℕ) → Stands B (view B img) nm s → freeBlocks (view B (remove B img nm .image)) ≡ freeBlocks (view B img) + (1 + need B (size (view B img) s))
   pub taken : (nm : List ℕ) (z : ℕ) → T (granted (create B img nm z .answer)) → freeBlocks (view B (create B img nm z .image)) + (1 + need B z) ≡ freeBlocks (view B img)
-  pub written : (h o : ℕ) (bs : List ℕ) → freeBlocks (view B (perform B img (writes h o bs) .image)) ≡ freeBlocks (view B img)
-
--- ---- handles: the inode number of a file, until the file is removed
--- h is the inode number of the file that has the name nm
-abbrev pub MeansFile : ℕ → View → ℕ → List ℕ → Type 0
-MeansFile B v h nm = (s : ℕ) × Stands B v nm s × (inode v s ≡ h)
-
--- h is no file's inode number
-abbrev pub MeansNone : ℕ → View → ℕ → Type 0
-MeansNone B v h = (s : ℕ) → Handled B v h s → ⊥
-
--- c is a granted remove of nm
-abbrev pub RemovesName : ℕ → List ℕ → List ℕ → Change → Type 0
-RemovesName B img nm c = (c ≡ removes nm) × T (granted (perform B img c .answer))
-
--- c is a create that answers h
-abbrev pub GivesHandle : ℕ → List ℕ → ℕ → Change → Type 0
-GivesHandle B img h c = (nm : List ℕ) × (z : ℕ) × (c ≡ creates nm z) × (perform B img c .answer ≡ value h)
-
--- none of the requests is a granted remove of nm
-abbrev pub NoneRemoves : ℕ → List ℕ → List ℕ → List Change → Type 0
-NoneRemoves B img nm [] = Unit {0}
-NoneRemoves B img nm (c ∷ cs) = (RemovesName B img nm c → ⊥) × NoneRemoves B (perform B img c .image) nm cs
-
--- none of the requests is a create that answers h
-abbrev pub NoneGives : ℕ → List ℕ → ℕ → List Change → Type 0
-NoneGives B img h [] = Unit {0}
-NoneGives B img h (c ∷ cs) = (GivesHandle B img h c → ⊥) × NoneGives B (perform B img c .image) h cs
-
-pub record HandleLaws (B : ℕ) (img : List ℕ) : Type 0 where
-  -- open's and create's handles mean the named file
-  pub opened : (nm : List ℕ) (h : ℕ) → openAnswer B img nm ≡ value h → MeansFile B (view B img) h nm
-  pub created : (nm : List ℕ) (z h : ℕ) → create B img nm z .answer ≡ value h → MeansFile B (view B (create B img nm z .image)) h nm
-  -- read and write refuse a handle that means none
-  pub none-read : (h : ℕ) → MeansNone B (view B img) h → (o : ℕ) (buf : List ℕ) → read B img h o buf .answer ≡ refused 14 0
-  pub none-written : (h : ℕ) → MeansNone B (view B img) h → (o : ℕ) (bs : List ℕ) → write B img h o bs .answer ≡ refused 14 0
-  -- "A handle kept over a remove is refused, or means the new file if a create has taken that block as its inode"
-  pub removed : (nm : List ℕ) (h : ℕ) → MeansFile B (view B img) h nm → MeansNone B (view B (remove B img nm .image)) h
-  pub retaken : (nm other : List ℕ) (z k h : ℕ) → MeansFile B (view B img) k nm → create B (remove B img nm .image) other z .answer ≡ value h → k ≡ h → MeansFile B (view B (create B (remove B img nm .image) other z .image)) k other
-  pub left : (nm other : List ℕ) (z k h : ℕ) → MeansFile B (view B img) k nm → create B (remove B img nm .image) other z .answer ≡ value h → k ≢ h → MeansNone B (view B (create B (remove B img nm .image) other z .image)) k
-  -- over any number of requests out of create, remove and write, refused ones included:
-  pub consistent : (cs : List Change) → Consistent B (afterAll B img cs)
-  -- a handle of a file that none of them removes still means it, and one of no file that none of them answers still means none
-  pub file : (cs : List Change) (h : ℕ) (nm : List ℕ) → MeansFile B (view B img) h nm → NoneRemoves B img nm cs → MeansFile B (view B (afterAll B img cs)) h nm
-  pub none : (cs : List Change) (h : ℕ) → MeansNone B (view B img) h → NoneGives B img h cs → MeansNone B (view B (afterAll B img cs)) h
+  pub written : (nm : List ℕ) (o : ℕ) (bs : List ℕ) → freeBlocks (view B (perform B img (writes nm o bs) .image)) ≡ freeBlocks (view B img)

@@ -6,21 +6,22 @@ use Prim.Native.Nat.{ℕ, _+_, _-_, _≤_, _<_, _*_}
 use mathlib.Core.List.{List, [], _∷_, map}
 use mathlib.Core.Option.{Option·map}
 use lib.ListN.{length, getD}
-use lib.Dec.{T, leb, ltb, eqb}
+use lib.Dec.{T, leb, ltb}
 use Rattle.lists.specs.Lists.{table, joined}
-use Rattle.tfs_spec.specs.Layout.{block, sameName, view, size, slotOf, slotWith, place, contents, BlockSize}
+use Rattle.tfs_spec.specs.Layout.{block, sameName, view, name, size, place, contents, BlockSize}
 use Rattle.tfs_spec.specs.Consistent.{File, Consistent, Bytes, LayoutLaws, NameLaws, NumberLaws}
-use Rattle.tfs_spec.specs.Requests.{Answer, done, value, unused, file, refused, granted, Outcome, create, remove, write, Change, perform, read}
-use Rattle.tfs_spec.specs.Answers.{Handled, CheckLaws, RefusalLaws, LabelRule, GrantLaws}
-use Rattle.tfs_spec.specs.Effects.{nameOn, ContentLaws, ChangeLaws, TouchLaws, FormatLaws, ReadLaws, KeptLaws, ByteLaws, RoomLaws, HandleLaws}
+use Rattle.tfs_spec.specs.Requests.{Answer, done, value, unused, file, refused, granted, Outcome, create, remove, write, Change, perform}
+use Rattle.tfs_spec.specs.Answers.{CheckLaws, RefusalLaws, LabelRule, GrantLaws}
+use Rattle.tfs_spec.specs.Effects.{nameOn, ContentLaws, ChangeLaws, TouchLaws, FormatLaws, TransferLaws, KeptLaws, ByteLaws, RoomLaws}
+use Rattle.tfs_spec.specs.Histories.{HistoryLaws, InodeLaws}
 
 pub record Write : Type 0 where
-  pub handle : ℕ
+  pub name : List ℕ
   pub offset : ℕ
   pub bytes : List ℕ
 
 unfoldable pub request : ℕ → List ℕ → Write → Outcome
-request B img w = write B img (w .handle) (w .offset) (w .bytes)
+request B img w = write B img (w .name) (w .offset) (w .bytes)
 
 -- "each request gets the image the last one left"
 unfoldable pub after : ℕ → List ℕ → List Write → List ℕ
@@ -39,16 +40,16 @@ countOf unused = 0
 countOf (file nm i z) = 0
 countOf (refused num p) = 0
 
--- "A granted write at offset o with count c covers positions o to o + c − 1 of the file its handle means there"
-unfoldable pub coversAt : ℕ → List ℕ → Write → ℕ → ℕ → Bool
-coversAt B img w s p =
-    eqb (slotWith B (view B img) (w .handle)) s
+-- "A granted write at offset o with count c covers positions o to o + c − 1 of the file" of its name
+unfoldable pub coversAt : ℕ → List ℕ → Write → List ℕ → ℕ → Bool
+coversAt B img w nm p =
+    sameName (w .name) nm
     && (leb (w .offset) p && ltb p (w .offset + countOf (request B img w .answer)))
 
 -- "what the last granted write covering it put there, or its byte before the list"
-unfoldable pub lastAt : ℕ → List ℕ → List Write → ℕ → ℕ → ℕ → ℕ
-lastAt B img [] s p old = old
-lastAt B img (w ∷ ws) s p old = lastAt B img ws s p (cond (coversAt B img w s p) (getD (w .bytes) (p - w .offset) 0) old)
+unfoldable pub lastAt : ℕ → List ℕ → List Write → List ℕ → ℕ → ℕ → ℕ
+lastAt B img [] nm p old = old
+lastAt B img (w ∷ ws) nm p old = lastAt B img ws nm p (cond (coversAt B img w nm p) (getD (w .bytes) (p - w .offset) 0) old)
 
 -- 1. any list of writes, refused ones included
 pub record WritesLaw (B : ℕ) (img : List ℕ) (ws : List Write) : Type 0 where
@@ -57,27 +58,27 @@ pub record WritesLaw (B : ℕ) (img : List ℕ) (ws : List Write) : Type 0 where
   -- names, sizes and places are as before
   pub kept : view B (after B img ws) ≡ view B img
   -- "every byte of every file is what the last granted write covering it put there, or its byte before the list if none did"
-  pub bytes : (s p : ℕ) → p < size (view B img) s → getD (after B img ws) (place B (view B img) s p) 0 ≡ lastAt B img ws s p (getD img (place B (view B img) s p) 0)
+  pub bytes : (s p : ℕ) → p < size (view B img) s → getD (after B img ws) (place B (view B img) s p) 0 ≡ lastAt B img ws (name (view B img) s) p (getD img (place B (view B img) s p) 0)
   -- "No other byte of the image has changed"
   pub others : (q : ℕ) → ((s p : ℕ) → File B (view B img) s → p < size (view B img) s → q ≢ place B (view B img) s p) → getD (after B img ws) q 0 ≡ getD img q 0
   pub long : length (after B img ws) ≡ length img
   -- the same by name: the bytes of each file that stands
-  pub named : (nm : List ℕ) → contents B (after B img ws) nm ≡ Option·map (λ old. table (λ p. lastAt B img ws (slotOf B (view B img) nm) p (getD old p 0)) 0 (length old)) (contents B img nm)
+  pub named : (nm : List ℕ) → contents B (after B img ws) nm ≡ Option·map (λ old. table (λ p. lastAt B img ws nm p (getD old p 0)) 0 (length old)) (contents B img nm)
 
--- pieces written to one handle, each at the offset where the count of the one before ended
-unfoldable pub piecesImage : ℕ → List ℕ → ℕ → ℕ → List (List ℕ) → List ℕ
-piecesImage B img h o [] = img
-piecesImage B img h o (b ∷ bs) = piecesImage B (write B img h o b .image) h (o + countOf (write B img h o b .answer)) bs
+-- pieces written to one name, each at the offset where the count of the one before ended
+unfoldable pub piecesImage : ℕ → List ℕ → List ℕ → ℕ → List (List ℕ) → List ℕ
+piecesImage B img nm o [] = img
+piecesImage B img nm o (b ∷ bs) = piecesImage B (write B img nm o b .image) nm (o + countOf (write B img nm o b .answer)) bs
 
 -- "a refused piece counts 0"
-unfoldable pub piecesCount : ℕ → List ℕ → ℕ → ℕ → List (List ℕ) → ℕ
-piecesCount B img h o [] = 0
-piecesCount B img h o (b ∷ bs) = countOf (write B img h o b .answer) + piecesCount B (write B img h o b .image) h (o + countOf (write B img h o b .answer)) bs
+unfoldable pub piecesCount : ℕ → List ℕ → List ℕ → ℕ → List (List ℕ) → ℕ
+piecesCount B img nm o [] = 0
+piecesCount B img nm o (b ∷ bs) = countOf (write B img nm o b .answer) + piecesCount B (write B img nm o b .image) nm (o + countOf (write B img nm o b .answer)) bs
 
 -- 2. "the image and the sum of the counts are those of one joined write"
-pub record PiecesLaw (B : ℕ) (img : List ℕ) (h o : ℕ) (bs : List (List ℕ)) : Type 0 where
-  pub image : piecesImage B img h o bs ≡ write B img h o (joined bs) .image
-  pub count : piecesCount B img h o bs ≡ countOf (write B img h o (joined bs) .answer)
+pub record PiecesLaw (B : ℕ) (img nm : List ℕ) (o : ℕ) (bs : List (List ℕ)) : Type 0 where
+  pub image : piecesImage B img nm o bs ≡ write B img nm o (joined bs) .image
+  pub count : piecesCount B img nm o bs ≡ countOf (write B img nm o (joined bs) .answer)
 
 -- 3. "A granted create, then a remove of that name, gives the directory and map back byte for byte"
 pub record BackLaw (B : ℕ) (img nm : List ℕ) (z : ℕ) : Type 0 where
@@ -96,12 +97,12 @@ pub record BothOrders (B : ℕ) (img : List ℕ) (a b : Change) : Type 0 where
 
 pub record RequestLaws (B : ℕ) (img : List ℕ) : Type 0 where
   pub writes : (ws : List Write) → WritesLaw B img ws
-  -- what it is to cover in it: granted with the count c, to the file in slot s, at an offset from which c bytes reach p
-  pub covers : (w : Write) (s p : ℕ) → T (coversAt B img w s p) ↔ (Handled B (view B img) (w .handle) s × (c : ℕ) × (request B img w .answer ≡ value c) × (w .offset ≤ p) × (p < w .offset + c))
-  pub pieces : (h o : ℕ) (bs : List (List ℕ)) → PiecesLaw B img h o bs
+  -- what it is to cover in it: granted with the count c, to that name, at an offset from which c bytes reach p
+  pub covers : (w : Write) (nm : List ℕ) (p : ℕ) → T (coversAt B img w nm p) ↔ (T (sameName (w .name) nm) × (c : ℕ) × (request B img w .answer ≡ value c) × (w .offset ≤ p) × (p < w .offset + c))
+  pub pieces : (nm : List ℕ) (o : ℕ) (bs : List (List ℕ)) → PiecesLaw B img nm o bs
   pub back : (nm : List ℕ) (z : ℕ) → T (granted (create B img nm z .answer)) → BackLaw B img nm z
   -- 4. "Two requests out of create, remove and write, on different names and granted in both orders, end with the same names, sizes and contents in either order"
-  pub orders : (a b : Change) → (T (sameName (nameOn B (view B img) a) (nameOn B (view B img) b)) → ⊥) → BothOrders B img a b → (nm : List ℕ) → contents B (perform B (perform B img a .image) b .image) nm ≡ contents B (perform B (perform B img b .image) a .image) nm
+  pub orders : (a b : Change) → (T (sameName (nameOn a) (nameOn b)) → ⊥) → BothOrders B img a b → (nm : List ℕ) → contents B (perform B (perform B img a .image) b .image) nm ≡ contents B (perform B (perform B img b .image) a .image) nm
 
 -- ---- all statements, each with its premises; tfs_proofs/specs/Proved.antt proves each
 pub record Statements : Type 0 where
@@ -111,8 +112,9 @@ pub record Statements : Type 0 where
   pub check-laws : (B : ℕ) → BlockSize B → (img : List ℕ) → CheckLaws B img
   pub refusal-laws : (B : ℕ) → BlockSize B → (img : List ℕ) → RefusalLaws B img
   pub grant-laws : (B : ℕ) → BlockSize B → (img : List ℕ) → GrantLaws B img
-  pub read-laws : (B : ℕ) (img : List ℕ) (h o : ℕ) (buf : List ℕ) (c : ℕ) → read B img h o buf .answer ≡ value c → ReadLaws B img h o buf c
   pub kept-laws : (B : ℕ) → BlockSize B → (img : List ℕ) → KeptLaws B img
+  pub history-laws : (B : ℕ) → BlockSize B → (img : List ℕ) → HistoryLaws B img
+  pub inode-laws : (B : ℕ) → BlockSize B → (img : List ℕ) → InodeLaws B img
   -- of images of three blocks or more, of images of bytes
   pub layout-laws : (B : ℕ) → BlockSize B → (img : List ℕ) → 3 * B ≤ length img → LayoutLaws B img
   pub format-laws : (B : ℕ) → BlockSize B → (img label : List ℕ) → 3 * B ≤ length img → LabelRule label → FormatLaws B img label
@@ -122,5 +124,5 @@ pub record Statements : Type 0 where
   pub change-laws : (B : ℕ) → BlockSize B → (img : List ℕ) → Consistent B img → ChangeLaws B img
   pub touch-laws : (B : ℕ) → BlockSize B → (img : List ℕ) → Consistent B img → TouchLaws B img
   pub room-laws : (B : ℕ) → BlockSize B → (img : List ℕ) → Consistent B img → RoomLaws B img
-  pub handle-laws : (B : ℕ) → BlockSize B → (img : List ℕ) → Consistent B img → HandleLaws B img
+  pub transfer-laws : (B : ℕ) → BlockSize B → (img : List ℕ) → Consistent B img → TransferLaws B img
   pub request-laws : (B : ℕ) → BlockSize B → (img : List ℕ) → Consistent B img → RequestLaws B img

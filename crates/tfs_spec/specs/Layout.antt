@@ -1,4 +1,4 @@
--- The TFS layout, over the block size B: 512 in all requests.
+-- The TFS layout, over the block size B: 512 in the code.
 use mathlib.Core.Path.{_≡_}
 use mathlib.Core.Bool.{Bool, _&&_, not, cond}
 use Prim.Native.Nat.{ℕ, _+_, _-_, _*_, _/_, _%_, _≤_, min}
@@ -178,12 +178,9 @@ size v s = inodeSize (getD (v .inodes) s [])
 unfoldable pub number : View → ℕ → ℕ → ℕ
 number v s k = inodeNumber (getD (v .inodes) s []) k
 
--- the slot of a name, of a handle, and the lowest free slot; the number of slots where there is none
+-- the slot of a name, and the lowest free slot; the number of slots where there is none
 unfoldable pub slotOf : ℕ → View → List ℕ → ℕ
 slotOf B v nm = least (λ s. not (free v s) && sameName (name v s) nm) (slots B)
-
-unfoldable pub slotWith : ℕ → View → ℕ → ℕ
-slotWith B v h = least (λ s. not (free v s) && eqb (inode v s) h) (slots B)
 
 unfoldable pub freeSlot : ℕ → View → ℕ
 freeSlot B v = least (free v) (slots B)

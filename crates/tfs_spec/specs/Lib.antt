@@ -4,4 +4,5 @@ pub mod Requests
 pub mod Consistent
 pub mod Answers
 pub mod Effects
+pub mod Histories
 pub mod Laws

@@ -5,14 +5,14 @@ use mathlib.Core.List.{List, [], _∷_, _++_}
 use lib.ListN.{length, getD, take, drop}
 use lib.Dec.{ltb}
 use Rattle.lists.specs.Lists.{zeros, padTo, table, bytes4, storeAt}
-use Rattle.tfs_spec.specs.Layout.{slots, maxSize, need, setBlock, magic, mapBit, setBits, setSlot, entry, inodeBlock, labelAllowed, nameAllowed, View, view, free, inode, name, size, slotOf, slotWith, freeSlot, place, freeBlocks}
+use Rattle.tfs_spec.specs.Layout.{slots, maxSize, need, setBlock, magic, mapBit, setBits, setSlot, entry, inodeBlock, labelAllowed, nameAllowed, View, view, free, inode, name, size, slotOf, freeSlot, place, freeBlocks}
 use Rattle.tfs_spec.specs.Check.{Verdict, consistent, broken, tooShort, check, fileClaims}
 
 -- "An answer is either granted with its result or refused with a reason"
 pub data Answer : Type 0 where
   -- granted, with no result
   done : Answer
-  -- granted: a handle, a count or free bytes
+  -- granted: an inode number, a count or free bytes
   value : ℕ → Answer
   -- granted, of list: a free slot; or name, inode number and size
   unused : Answer
@@ -73,18 +73,23 @@ format B img label =
 unfoldable pub checkAnswer : ℕ → List ℕ → Answer
 checkAnswer B img = checked (check B img) refused done
 
--- ---- open: 8, 13
-unfoldable pub openView : ℕ → View → List ℕ → Answer
-openView B v nm =
+-- ---- the lookup of a name, for remove, read and write: 8, 13
+pub data Lookup : Type 0 where
+  -- the slot of the file that has the name
+  inSlot : ℕ → Lookup
+  -- the refusal's number
+  denied : ℕ → Lookup
+
+unfoldable pub lookup : ℕ → View → List ℕ → Lookup
+lookup B v nm =
     let s : ℕ = slotOf B v nm in
-    cond (not (nameAllowed nm)) (refused 8 0)
-    (cond (not (ltb s (slots B))) (refused 13 0) (value (inode v s)))
+    cond (not (nameAllowed nm)) (denied 8)
+    (cond (not (ltb s (slots B))) (denied 13) (inSlot s))
 
-abbrev pub openStep : ℕ → List ℕ → List ℕ → Answer
-openStep B img nm = openView B (view B img) nm
-
-unfoldable pub openAnswer : ℕ → List ℕ → List ℕ → Answer
-openAnswer B img nm = checked (check B img) refused (openStep B img nm)
+-- "takes the answer of the lookup apart": its refusal as it is, or what the request's step gives on the file in that slot
+abbrev pub looked : {A : Type 0} → Lookup → (ℕ → ℕ → A) → (ℕ → A) → A
+looked (inSlot s) refusal step = step s
+looked (denied num) refusal step = refusal num 0
 
 -- ---- create: 8, 9, 10, 11, 12
 -- the free blocks from k on among the next d, rising
@@ -117,12 +122,12 @@ createStores B v nm sz = placeStores B v (freeSlot B v) nm sz (chosen B v sz)
 
 unfoldable pub createView : ℕ → View → List ℕ → ℕ → Answer
 createView B v nm sz =
-    let handle : ℕ = getD (chosen B v sz) 0 0 in
+    let number : ℕ = getD (chosen B v sz) 0 0 in
     cond (not (nameAllowed nm)) (refused 8 0)
     (cond (ltb (maxSize B) sz) (refused 9 0)
     (cond (ltb (slotOf B v nm) (slots B)) (refused 10 0)
     (cond (not (ltb (freeSlot B v) (slots B))) (refused 11 0)
-    (cond (ltb (freeBlocks v) (1 + need B sz)) (refused 12 0) (value handle)))))
+    (cond (ltb (freeBlocks v) (1 + need B sz)) (refused 12 0) (value number)))))
 
 -- the image after: that of the stores where the answer is a grant
 abbrev pub stored : ℕ → List ℕ → Answer → List Store → Outcome
@@ -144,9 +149,7 @@ removeStores B v nm =
     ∷ []
 
 unfoldable pub removeView : ℕ → View → List ℕ → Answer
-removeView B v nm =
-    cond (not (nameAllowed nm)) (refused 8 0)
-    (cond (not (ltb (slotOf B v nm) (slots B))) (refused 13 0) done)
+removeView B v nm = looked (lookup B v nm) refused (λ s. done)
 
 abbrev pub removeStep : ℕ → List ℕ → List ℕ → Outcome
 removeStep B img nm = stored B img (removeView B (view B img) nm) (removeStores B (view B img) nm)
@@ -154,17 +157,14 @@ removeStep B img nm = stored B img (removeView B (view B img) nm) (removeStores 
 unfoldable pub remove : ℕ → List ℕ → List ℕ → Outcome
 remove B img nm = checked (check B img) (refuse img []) (removeStep B img nm)
 
--- ---- read and write: 14, 15
+-- ---- read and write, by name: 8, 13, 15
 -- "count = smaller of buffer length and size − offset"
 unfoldable pub counted : View → ℕ → ℕ → ℕ → ℕ
 counted v s o len = min len (size v s - o)
 
--- "handle is no used slot's inode number"; "offset greater than size"
-unfoldable pub transferView : ℕ → View → ℕ → ℕ → ℕ → Answer
-transferView B v h o len =
-    let s : ℕ = slotWith B v h in
-    cond (not (ltb s (slots B))) (refused 14 0)
-    (cond (ltb (size v s) o) (refused 15 0) (value (counted v s o len)))
+-- of the file in slot s: "offset greater than size"
+unfoldable pub transferAnswer : View → ℕ → ℕ → ℕ → Answer
+transferAnswer v s o len = cond (ltb (size v s) o) (refused 15 0) (value (counted v s o len))
 
 -- "Read leaves the rest of the buffer"
 unfoldable pub readBuffer : ℕ → View → List ℕ → ℕ → ℕ → List ℕ → List ℕ
@@ -172,27 +172,35 @@ readBuffer B v img s o buf =
     let c : ℕ = counted v s o (length buf) in
     table (λ p. getD img (place B v s p) 0) o c ++ drop c buf
 
-abbrev pub readStep : ℕ → List ℕ → ℕ → ℕ → List ℕ → Outcome
-readStep B img h o buf =
+abbrev pub readFile : ℕ → List ℕ → ℕ → ℕ → List ℕ → Outcome
+readFile B img s o buf =
     let v : View = view B img in
-    let a : Answer = transferView B v h o (length buf) in
-    record { answer = a; image = img; buffer = cond (granted a) (readBuffer B v img (slotWith B v h) o buf) buf }
+    let a : Answer = transferAnswer v s o (length buf) in
+    record { answer = a; image = img; buffer = cond (granted a) (readBuffer B v img s o buf) buf }
 
-unfoldable pub read : ℕ → List ℕ → ℕ → ℕ → List ℕ → Outcome
-read B img h o buf = checked (check B img) (refuse img buf) (readStep B img h o buf)
+-- "Merge open with read": "takes the answer of the lookup apart before anything is read"
+abbrev pub readStep : ℕ → List ℕ → List ℕ → ℕ → List ℕ → Outcome
+readStep B img nm o buf = looked (lookup B (view B img) nm) (refuse img buf) (λ s. readFile B img s o buf)
+
+unfoldable pub read : ℕ → List ℕ → List ℕ → ℕ → List ℕ → Outcome
+read B img nm o buf = checked (check B img) (refuse img buf) (readStep B img nm o buf)
 
 -- "Write changes only those content bytes"
 unfoldable pub writeImage : ℕ → View → List ℕ → ℕ → ℕ → List ℕ → List ℕ
 writeImage B v img s o buf = storeAt (place B v s) img o (take (counted v s o (length buf)) buf)
 
-abbrev pub writeStep : ℕ → List ℕ → ℕ → ℕ → List ℕ → Outcome
-writeStep B img h o buf =
+abbrev pub writeFile : ℕ → List ℕ → ℕ → ℕ → List ℕ → Outcome
+writeFile B img s o buf =
     let v : View = view B img in
-    let a : Answer = transferView B v h o (length buf) in
-    record { answer = a; image = cond (granted a) (writeImage B v img (slotWith B v h) o buf) img; buffer = [] }
+    let a : Answer = transferAnswer v s o (length buf) in
+    record { answer = a; image = cond (granted a) (writeImage B v img s o buf) img; buffer = [] }
 
-unfoldable pub write : ℕ → List ℕ → ℕ → ℕ → List ℕ → Outcome
-write B img h o buf = checked (check B img) (refuse img []) (writeStep B img h o buf)
+-- "and open with write"
+abbrev pub writeStep : ℕ → List ℕ → List ℕ → ℕ → List ℕ → Outcome
+writeStep B img nm o buf = looked (lookup B (view B img) nm) (refuse img []) (λ s. writeFile B img s o buf)
+
+unfoldable pub write : ℕ → List ℕ → List ℕ → ℕ → List ℕ → Outcome
+write B img nm o buf = checked (check B img) (refuse img []) (writeStep B img nm o buf)
 
 -- ---- list: "slot over 24" is 14; "a free slot, or name, inode number and size"
 unfoldable pub listView : ℕ → View → ℕ → Answer
@@ -220,21 +228,20 @@ pub data Change : Type 0 where
   creates : List ℕ → ℕ → Change
   -- name
   removes : List ℕ → Change
-  -- handle, offset and bytes
-  writes : ℕ → ℕ → List ℕ → Change
+  -- name, offset and bytes
+  writes : List ℕ → ℕ → List ℕ → Change
 
 unfoldable pub perform : ℕ → List ℕ → Change → Outcome
 perform B img (creates nm z) = create B img nm z
 perform B img (removes nm) = remove B img nm
-perform B img (writes h o bs) = write B img h o bs
+perform B img (writes nm o bs) = write B img nm o bs
 
 -- every request but format
 pub data Request : Type 0 where
   changes : Change → Request
   checks : Request
-  opens : List ℕ → Request
-  -- handle, offset and buffer
-  reads : ℕ → ℕ → List ℕ → Request
+  -- name, offset and buffer
+  reads : List ℕ → ℕ → List ℕ → Request
   lists : ℕ → Request
   counts : Request
 
@@ -242,24 +249,32 @@ pub data Request : Type 0 where
 abbrev pub lent : Request → List ℕ
 lent (changes c) = []
 lent checks = []
-lent (opens nm) = []
-lent (reads h o buf) = buf
+lent (reads nm o buf) = buf
 lent (lists s) = []
 lent counts = []
 
--- check, open, read, list and free bytes take the image for reading only, so that it stays is in the type of their code
+-- check, list and free bytes take the image for reading only, so that it stays is in the type of their code
 abbrev pub tell : List ℕ → Answer → Outcome
 tell img a = record { answer = a; image = img; buffer = [] }
 
 abbrev pub reply : ℕ → List ℕ → Request → Outcome
 reply B img (changes c) = perform B img c
 reply B img checks = tell img (checkAnswer B img)
-reply B img (opens nm) = tell img (openAnswer B img nm)
-reply B img (reads h o buf) = read B img h o buf
+reply B img (reads nm o buf) = read B img nm o buf
 reply B img (lists s) = tell img (listAnswer B img s)
 reply B img counts = tell img (freeAnswer B img)
 
+-- any request, format too
+pub data Operation : Type 0 where
+  -- label
+  formats : List ℕ → Operation
+  requests : Request → Operation
+
+abbrev pub operate : ℕ → List ℕ → Operation → Outcome
+operate B img (formats label) = format B img label
+operate B img (requests r) = reply B img r
+
 -- "each request gets the image the last one left"
-unfoldable pub afterAll : ℕ → List ℕ → List Change → List ℕ
+unfoldable pub afterAll : ℕ → List ℕ → List Operation → List ℕ
 afterAll B img [] = img
-afterAll B img (c ∷ cs) = afterAll B (perform B img c .image) cs
+afterAll B img (x ∷ xs) = afterAll B (operate B img x .image) xs

@@ -62,16 +62,16 @@ module _ (img : List ℕ) (passed : check 512 img ≡ consistent) where
     below : inode v s < blocks 512 img
     below = subst (λ (n : ℕ). inode v s < n) (view-n 512 img) (inode-inside .high)
 
-    pub inode-small : inode v s < 4096
+    inode-small : inode v s < 4096
     inode-small = omega (arith, below, blocks-high)
 
-    pub inode-in : inode v s * 512 + 512 ≤ length img
+    inode-in : inode v s * 512 + 512 ≤ length img
     inode-in = in-image 512 (inode v s) img below
 
     ino-is : getD (v .inodes) s [] ≡ block 512 img (inode v s)
     ino-is = inode-block 512 img s (f .slot) inode-inside
 
-    pub size-is : size v s ≡ inodeSize (block 512 img (inode v s))
+    size-is : size v s ≡ inodeSize (block 512 img (inode v s))
     unfolding size
     size-is = ap inodeSize ino-is
 
@@ -80,6 +80,13 @@ module _ (img : List ℕ) (passed : check 512 img ≡ consistent) where
 
     pub need-few : need 512 (inodeSize (block 512 img (inode v s))) ≤ 127
     need-few = need-le 512 (inodeSize (block 512 img (inode v s))) 127 (omega arith) (omega (arith, size-is, size-small))
+
+    -- the same of the block that the code has as the inode, and of the size that it reads there
+    pub file-ready : (b : ℕ) → b ≡ inode v s → (b * 512 + 512 ≤ length img) × (b < 4096) × (need 512 (inodeSize (block 512 img b)) ≤ 127)
+    file-ready b e = rw e (inode-in, inode-small, need-few)
+
+    pub sized : (b z : ℕ) → b ≡ inode v s → z ≡ inodeSize (block 512 img b) → z ≡ size v s
+    sized b z e ez = ez ∙ ap (λ (x : ℕ). inodeSize (block 512 img x)) e ∙ sym size-is
 
     pub claims-are : fileClaims 512 v s ≡ claimList (inode v s) (block 512 img (inode v s))
     claims-are =

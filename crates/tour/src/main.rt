@@ -71,26 +71,30 @@ fn checked(c: CheckAnswer) {
 }
 
 // Writes into the file and reads it back.
-fn use_file(image: &mut [u8; 65536], handle: u32) {
+fn use_file(image: &mut [u8; 65536]) {
     answer(
         b"write 5 bytes at 10: ",
-        tfs::write(image, handle, 10, b"hello"),
+        tfs::write(image, b"TIMING", 10, b"hello"),
     );
     let mut back = [0u8; 5];
     answer(
         b"read 5 bytes at 10: ",
-        tfs::read(image, handle, 10, &mut back),
+        tfs::read(image, b"TIMING", 10, &mut back),
     );
     text(b"read back: ");
     text(&back);
     text(b"\n");
     answer(
         b"write at the end: ",
-        tfs::write(image, handle, 1000, b"hello"),
+        tfs::write(image, b"TIMING", 1000, b"hello"),
     );
     answer(
         b"write past the end: ",
-        tfs::write(image, handle, 1001, b"hello"),
+        tfs::write(image, b"TIMING", 1001, b"hello"),
+    );
+    answer(
+        b"write to a name that does not stand: ",
+        tfs::write(image, b"TIMER", 1001, b"hello"),
     );
     answer(b"free bytes: ", tfs::free_bytes(image));
     checked(tfs::check(image));
@@ -100,17 +104,17 @@ fn damage(image: &mut [u8; 65536]) {
     text(b"one byte of the map is damaged\n");
     image[515] = 7;
     checked(tfs::check(image));
-    answer(b"open TIMING: ", tfs::open(image, b"TIMING"));
+    let mut back = [0u8; 5];
+    answer(b"read TIMING: ", tfs::read(image, b"TIMING", 10, &mut back));
 }
 
 fn main() {
     let mut image = io::large_buffer();
     done(b"format PUMP: ", tfs::format(&mut image, b"PUMP"));
     answer(
-        b"create TIMING, 1000 bytes: handle ",
+        b"create TIMING, 1000 bytes: inode number ",
         tfs::create(&mut image, b"TIMING", 1000),
     );
-    answer(b"open TIMING: handle ", tfs::open(&image, b"TIMING"));
-    use_file(&mut image, 3);
+    use_file(&mut image);
     damage(&mut image);
 }

@@ -29,6 +29,7 @@ fn main() -> ExitCode {
         return ExitCode::from(2);
     };
     on_tfs::requests(rounds);
+    on_tfs::short_transfers(rounds);
     on_tfs::transfers(rounds);
     on_tfs::growth(rounds);
     on_romfs::requests(rounds);

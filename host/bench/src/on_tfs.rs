@@ -92,16 +92,29 @@ fn list(rounds: usize, image: &[u8]) -> Vec<f64> {
     )
 }
 
+/// Read and write of a few bytes of a file.
+pub fn short_transfers(rounds: usize) {
+    const SIZE: usize = 64;
+    let mut table = Table::new("request, volume | proved ns | reference ns | proved / reference");
+    for made in with_data() {
+        let (read, write) = (read(rounds, &made, SIZE), write(rounds, &made, SIZE));
+        table.row(format!("read, {}", made.title), pair(&read));
+        table.row(format!("write, {}", made.title), pair(&write));
+    }
+    table.print(&format!("TFS: read and write of {SIZE} bytes"));
+}
+
 /// Read and write of a whole file of the largest size, beside a plain copy.
 pub fn transfers(rounds: usize) {
+    const SIZE: usize = LARGEST_FILE as usize;
     let heads =
         "request, volume | proved ns | reference ns | copy ns | proved / reference | proved / copy";
     let mut whole = Table::new(heads);
     let mut less = Table::new(heads);
     for made in with_data() {
         for (request, times) in [
-            ("read", read(rounds, &made)),
-            ("write", write(rounds, &made)),
+            ("read", read(rounds, &made, SIZE)),
+            ("write", write(rounds, &made, SIZE)),
         ] {
             let [ours, theirs, ours_check, theirs_check, copy] = times[..] else {
                 unreachable!("five lanes");
@@ -124,33 +137,31 @@ pub fn transfers(rounds: usize) {
     less.print("TFS: the same, less the check of the same volume");
 }
 
-fn read(rounds: usize, made: &Made) -> Vec<f64> {
-    let size = LARGEST_FILE as usize;
-    let (image, data) = (&made.image[..], made.data);
+fn read(rounds: usize, made: &Made, size: usize) -> Vec<f64> {
+    let (image, name) = (&made.image[..], &made.name[..]);
     let mut buffers = vec![vec![0u8; size]; 3];
     let [ours, theirs, copy] = &mut buffers[..] else {
         unreachable!("three buffers");
     };
     Race::new(rounds)
-        .lane(|| proved::tfs::read(black_box(image), data, 0, ours))
-        .lane(|| reference_tfs::read(black_box(image), data, 0, theirs))
+        .lane(|| proved::tfs::read(black_box(image), name, 0, ours).expect("read"))
+        .lane(|| reference_tfs::read(black_box(image), name, 0, theirs).expect("read"))
         .lane(|| proved::tfs::check(black_box(image)))
         .lane(|| reference_tfs::check(black_box(image)))
         .lane(|| black_box(&mut copy[..]).copy_from_slice(black_box(&image[2048..2048 + size])))
         .run()
 }
 
-fn write(rounds: usize, made: &Made) -> Vec<f64> {
-    let size = LARGEST_FILE as usize;
-    let (image, data) = (&made.image[..], made.data);
+fn write(rounds: usize, made: &Made, size: usize) -> Vec<f64> {
+    let (image, name) = (&made.image[..], &made.name[..]);
     let buffer = vec![0x5A; size];
     let mut images = vec![made.image.clone(); 3];
     let [ours, theirs, copy] = &mut images[..] else {
         unreachable!("three images");
     };
     Race::new(rounds)
-        .lane(|| proved::tfs::write(black_box(ours), data, 0, &buffer))
-        .lane(|| reference_tfs::write(black_box(theirs), data, 0, &buffer))
+        .lane(|| proved::tfs::write(black_box(ours), name, 0, &buffer).expect("write"))
+        .lane(|| reference_tfs::write(black_box(theirs), name, 0, &buffer).expect("write"))
         .lane(|| proved::tfs::check(black_box(image)))
         .lane(|| reference_tfs::check(black_box(image)))
         .lane(|| black_box(&mut copy[2048..2048 + size]).copy_from_slice(black_box(&buffer)))

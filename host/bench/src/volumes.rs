@@ -4,15 +4,15 @@ use generate::tfs::{volume, Shape};
 use generate::Random;
 use reference::tfs::{self, BLOCK_SIZE, LARGEST_FILE, MOST_BLOCKS};
 
-/// A volume and the handle of a file of the largest size in it, if there is one.
+/// A volume with a file of the largest size in it.
 #[derive(Clone)]
 pub struct Made {
     /// What it is called in the tables.
     pub title: &'static str,
     /// The image.
     pub image: Vec<u8>,
-    /// The handle of the file "DATA", or 0.
-    pub data: u32,
+    /// The name of the file.
+    pub name: Vec<u8>,
 }
 
 /// An empty volume of so many blocks.
@@ -32,7 +32,7 @@ pub fn with_files(blocks: usize, sizes: &[u32]) -> Vec<u8> {
     image
 }
 
-/// The volumes of 2 MiB without the file "DATA".
+/// The volumes of 2 MiB for requests that move no content.
 pub fn plain() -> [(&'static str, Vec<u8>); 3] {
     let typical = [1_000, 200, 4_096, 12_000, 512, 30_000, 100, 65_024];
     [
@@ -57,8 +57,9 @@ pub fn with_data() -> Vec<Made> {
         .iter()
         .map(|(title, sizes)| {
             let mut image = with_files(MOST_BLOCKS, sizes);
-            let data = tfs::create(&mut image, b"DATA", LARGEST_FILE).expect("create");
-            Made { title, image, data }
+            let name = b"DATA".to_vec();
+            tfs::create(&mut image, &name, LARGEST_FILE).expect("create");
+            Made { title, image, name }
         })
         .collect();
     made.push(scattered());
@@ -76,7 +77,7 @@ fn scattered() -> Made {
         if neighbours.count() < 8 {
             return Made {
                 title: "scattered blocks",
-                data: file.inode,
+                name: file.name.clone(),
                 image: made.image,
             };
         }

@@ -1,6 +1,6 @@
 //! What is drawn for TFS: volumes, and arguments besides the usual ones.
 
-use generate::tfs::{any_volume, volume, File, Shape, Volume};
+use generate::tfs::{any_volume, volume, Shape, Volume};
 use generate::Random;
 use reference::request::{Arguments, Request};
 use reference::tfs::{BLOCK_SIZE, LARGEST_FILE, MOST_BLOCKS};
@@ -46,37 +46,25 @@ fn noise(random: &mut Random) -> Volume {
         image: random.bytes(length),
         blocks: (length / BLOCK_SIZE).max(3),
         files: Vec::new(),
+        gone: Vec::new(),
     }
 }
 
-/// Now and then takes names and handles of gone files, and numbers at the far ends.
-pub(crate) fn twist(
-    random: &mut Random,
-    past: &[File],
-    request: Request,
-    arguments: &mut Arguments,
-) {
-    let gone = (!past.is_empty()).then(|| &past[random.below(past.len())]);
+/// Now and then takes sizes, offsets and buffers at the far ends, and small sizes.
+pub(crate) fn twist(random: &mut Random, request: Request, arguments: &mut Arguments) {
     match request {
-        Request::TfsRead | Request::TfsWrite => twist_transfer(random, gone, arguments),
-        Request::TfsOpen | Request::TfsRemove | Request::TfsCreate => {
-            twist_name(random, gone, arguments)
-        }
+        Request::TfsRead | Request::TfsWrite => twist_transfer(random, arguments),
+        Request::TfsCreate => twist_create(random, arguments),
         _ => {}
     }
 }
 
-fn twist_transfer(random: &mut Random, gone: Option<&File>, arguments: &mut Arguments) {
+fn twist_transfer(random: &mut Random, arguments: &mut Arguments) {
     const LARGEST: usize = LARGEST_FILE as usize;
-    if let (Some(file), true) = (gone, random.one_in(6)) {
-        arguments.first = file.inode;
-        let size = file.size;
-        arguments.second = random.pick(&[0, size, size.wrapping_sub(1), size + 1]);
-    }
     if random.one_in(24) {
         let around = random.pick(&[LARGEST_FILE - 1, LARGEST_FILE, LARGEST_FILE + 1]);
         let far = [around, around, around, 1 << 31, u32::MAX - 511, u32::MAX];
-        arguments.second = random.pick(&far);
+        arguments.number = random.pick(&far);
     }
     if random.one_in(24) {
         let length = random.pick(&[LARGEST, LARGEST + 1, 70_000]);
@@ -84,15 +72,12 @@ fn twist_transfer(random: &mut Random, gone: Option<&File>, arguments: &mut Argu
     }
 }
 
-fn twist_name(random: &mut Random, gone: Option<&File>, arguments: &mut Arguments) {
-    if let (Some(file), true) = (gone, random.one_in(6)) {
-        arguments.name = file.name.clone();
-    }
+fn twist_create(random: &mut Random, arguments: &mut Arguments) {
     if random.one_in(3) {
-        arguments.first = random.below(1500) as u32;
+        arguments.number = random.below(1500) as u32;
     }
     if random.one_in(24) {
         let around = random.pick(&[LARGEST_FILE - 512, LARGEST_FILE - 511, LARGEST_FILE + 1]);
-        arguments.first = random.pick(&[around, around, LARGEST_FILE, u32::MAX]);
+        arguments.number = random.pick(&[around, around, LARGEST_FILE, u32::MAX]);
     }
 }

@@ -85,8 +85,7 @@ pub struct Difference {
 impl fmt::Display for Difference {
     fn fmt(&self, f: &mut fmt::Formatter<'_>) -> fmt::Result {
         let Arguments {
-            first,
-            second,
+            number,
             name,
             buffer,
         } = &self.arguments;
@@ -97,7 +96,7 @@ impl fmt::Display for Difference {
         )?;
         writeln!(
             f,
-            "  first {first}, second {second}, name {name:?}, buffer of {} bytes",
+            "  number {number}, name {name:?}, buffer of {} bytes",
             buffer.len()
         )?;
         for (side, answer) in ["proved", "reference"].iter().zip(&self.answers) {

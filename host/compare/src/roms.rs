@@ -27,7 +27,7 @@ pub(crate) fn on_next(comparison: &mut Comparison) -> Result<(), Stop> {
         let request = comparison.random.pick(&OTHERS);
         let mut arguments = romfs_arguments(&mut comparison.random, &made, &image, request);
         if comparison.random.one_in(16) {
-            arguments.first = comparison.random.word() >> comparison.random.below(32);
+            arguments.number = comparison.random.word() >> comparison.random.below(32);
         }
         comparison.ask(&mut pair, request, &arguments)?;
     }

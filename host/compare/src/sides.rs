@@ -9,24 +9,23 @@ use crate::lent::Lents;
 
 /// Answers with the proved library.
 pub fn proved(request: Request, arguments: &Arguments, lents: &mut Lents) -> Answer {
-    let (first, second) = (arguments.first, arguments.second);
+    let number = arguments.number;
     let image = lents.image.bytes_mut();
     let name = lents.name.bytes();
     let buffer = lents.buffer.bytes_mut();
     match request {
         Request::TfsCheck => value_answer(c::tfs::check(image)),
         Request::TfsFormat => value_answer(c::tfs::format(image, name)),
-        Request::TfsOpen => value_answer(c::tfs::open(image, name)),
-        Request::TfsCreate => value_answer(c::tfs::create(image, name, first)),
+        Request::TfsCreate => value_answer(c::tfs::create(image, name, number)),
         Request::TfsRemove => value_answer(c::tfs::remove(image, name)),
-        Request::TfsRead => value_answer(c::tfs::read(image, first, second, buffer)),
-        Request::TfsWrite => value_answer(c::tfs::write(image, first, second, buffer)),
-        Request::TfsList => slot_answer(c::tfs::list(image, first)),
+        Request::TfsRead => value_answer(c::tfs::read(image, name, number, buffer)),
+        Request::TfsWrite => value_answer(c::tfs::write(image, name, number, buffer)),
+        Request::TfsList => slot_answer(c::tfs::list(image, number)),
         Request::TfsFree => value_answer(c::tfs::free_bytes(image)),
         Request::RomCheck => value_answer(c::romfs::check(image)),
-        Request::RomFind => value_answer(c::romfs::find(image, first, name)),
-        Request::RomEntry => entry_answer(c::romfs::entry(image, first)),
-        Request::RomLength | Request::RomContent => part_answer(c::romfs::content(image, first)),
+        Request::RomFind => value_answer(c::romfs::find(image, number, name)),
+        Request::RomEntry => entry_answer(c::romfs::entry(image, number)),
+        Request::RomLength | Request::RomContent => part_answer(c::romfs::content(image, number)),
     }
 }
 
@@ -67,7 +66,7 @@ fn part_answer(part: c::romfs::Part) -> Answer {
 pub fn reference(request: Request, arguments: &Arguments, lents: &mut Lents) -> Answer {
     let image = lents.image.bytes_mut();
     let answer = match request {
-        Request::RomLength | Request::RomContent => content(image, arguments.first),
+        Request::RomLength | Request::RomContent => content(image, arguments.number),
         _ => request::run(request, arguments, image, lents.buffer.bytes_mut()).map(granted),
     };
     answer.unwrap_or_else(|Refusal { number, place }| Answer::of(&[number, place]))

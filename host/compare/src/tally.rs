@@ -4,10 +4,9 @@ use reference::request::Request;
 
 use crate::answer::Answer;
 
-const REQUESTS: [(Request, &str); 13] = [
+const REQUESTS: [(Request, &str); 12] = [
     (Request::TfsFormat, "format"),
     (Request::TfsCheck, "check"),
-    (Request::TfsOpen, "open"),
     (Request::TfsCreate, "create"),
     (Request::TfsRemove, "remove"),
     (Request::TfsRead, "read"),
@@ -20,53 +19,53 @@ const REQUESTS: [(Request, &str); 13] = [
     (Request::RomContent, "content"),
 ];
 
-/// How often each request was granted and refused, and each refusal given.
+/// How often each request was granted, and given each refusal.
 #[derive(Clone, Debug, Default, PartialEq, Eq)]
 pub struct Tally {
-    granted: [u64; 32],
-    refused: [u64; 32],
-    numbers: [u64; 32],
+    /// By request and number of the refusal; 0 is granted.
+    answers: [[u64; 32]; 32],
 }
 
 impl Tally {
     /// Counts an answer.
     pub fn count(&mut self, request: Request, answer: &Answer) {
-        match answer.refusal() {
-            0 => self.granted[request as usize] += 1,
-            number => {
-                self.refused[request as usize] += 1;
-                self.numbers[number as usize % 32] += 1;
-            }
-        }
+        self.answers[request as usize][answer.refusal() as usize % 32] += 1;
     }
 
     /// Gives the number of requests.
     pub fn requests(&self) -> u64 {
-        self.granted.iter().chain(&self.refused).sum()
+        self.answers.as_flattened().iter().sum()
     }
 
     /// Gives how often a request was granted.
     pub fn granted(&self, request: Request) -> u64 {
-        self.granted[request as usize]
+        self.refused(request, 0)
+    }
+
+    /// Gives how often a request was given a refusal.
+    pub fn refused(&self, request: Request, number: u32) -> u64 {
+        self.answers[request as usize][number as usize]
     }
 
     /// Gives how often a refusal was given.
     pub fn seen(&self, number: u32) -> u64 {
-        self.numbers[number as usize]
+        let of_request = |answers: &[u64; 32]| answers[number as usize];
+        self.answers.iter().map(of_request).sum()
     }
 }
 
 impl fmt::Display for Tally {
     fn fmt(&self, f: &mut fmt::Formatter<'_>) -> fmt::Result {
-        let granted: u64 = self.granted.iter().sum();
         write!(
             f,
-            "{} requests, {granted} granted; granted+refused:",
-            self.requests()
+            "{} requests, {} granted; granted+refused:",
+            self.requests(),
+            self.seen(0)
         )?;
         for (request, name) in REQUESTS {
-            let index = request as usize;
-            write!(f, " {name} {}+{}", self.granted[index], self.refused[index])?;
+            let granted = self.granted(request);
+            let all: u64 = self.answers[request as usize].iter().sum();
+            write!(f, " {name} {granted}+{}", all - granted)?;
         }
         write!(f, "; refusals:")?;
         for number in (1..=15).chain(21..=31) {

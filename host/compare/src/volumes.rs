@@ -1,9 +1,9 @@
 //! Sequences of requests on TFS volumes.
 
 use generate::cases::tfs_arguments;
-use generate::tfs::{damage_volume, damage_volume_twice, scramble_volume, File, Volume};
+use generate::tfs::{damage_volume, damage_volume_twice, scramble_volume, Volume};
 use reference::request::{Arguments, Request};
-use reference::tfs::{BLOCK_SIZE, SLOTS};
+use reference::tfs::BLOCK_SIZE;
 
 use crate::answer::Answer;
 use crate::comparison::{Comparison, Stop};
@@ -23,14 +23,14 @@ const REQUESTS: [Request; 24] = [
     Request::TfsRead,
     Request::TfsRead,
     Request::TfsRead,
+    Request::TfsRead,
+    Request::TfsWrite,
     Request::TfsWrite,
     Request::TfsWrite,
     Request::TfsWrite,
     Request::TfsWrite,
     Request::TfsList,
     Request::TfsList,
-    Request::TfsOpen,
-    Request::TfsOpen,
     Request::TfsFree,
     Request::TfsFree,
     Request::TfsCheck,
@@ -62,41 +62,65 @@ struct History<'a> {
     pair: Pair,
     /// What stands in the volume, as far as requests were granted; its image is not kept up.
     made: Volume,
-    /// All files that there ever were.
-    past: Vec<File>,
 }
 
 impl<'a> History<'a> {
     fn new(comparison: &'a mut Comparison, made: Volume) -> Self {
         let pair = comparison.pair(&made.image);
-        let past = made.files.clone();
         Self {
             comparison,
             pair,
             made,
-            past,
         }
     }
 
-    /// Makes one request and takes note of what it has changed.
+    /// Makes one request, and now and then some that follow from its answer.
     fn step(&mut self) -> Result<(), Stop> {
         let (request, arguments) = self.request();
-        let answer = self.comparison.ask(&mut self.pair, request, &arguments)?;
-        match answer.refusal() {
-            0 => self.note(request, &arguments, &answer),
-            1..=7 if self.comparison.random.one_in(4) => self.format()?,
-            _ => {}
+        let refusal = self.make(request, &arguments)?;
+        let random = &mut self.comparison.random;
+        match refusal {
+            0 if request == Request::TfsRemove && random.one_in(3) => {
+                self.use_again(&arguments.name)
+            }
+            1..=7 if random.one_in(4) => {
+                self.make(Request::TfsFormat, &Arguments::default())?;
+                Ok(())
+            }
+            _ => Ok(()),
         }
-        Ok(())
     }
 
-    /// Makes a volume of noise.
-    fn format(&mut self) -> Result<(), Stop> {
-        let arguments = Arguments::default();
-        let request = Request::TfsFormat;
-        let answer = self.comparison.ask(&mut self.pair, request, &arguments)?;
+    /// Makes a request, takes note of what it has changed and gives the number of its refusal.
+    fn make(&mut self, request: Request, arguments: &Arguments) -> Result<u32, Stop> {
+        let answer = self.comparison.ask(&mut self.pair, request, arguments)?;
         if answer.refusal() == 0 {
-            self.note(request, &arguments, &answer);
+            self.note(request, arguments, &answer);
+        }
+        Ok(answer.refusal())
+    }
+
+    /// Uses the name of a removed file, also after another file may have taken its blocks, and
+    /// when it stands again with another size.
+    fn use_again(&mut self, name: &[u8]) -> Result<(), Stop> {
+        for (request, other) in [
+            (Request::TfsRead, false),
+            (Request::TfsCreate, true),
+            (Request::TfsWrite, false),
+            (Request::TfsCreate, false),
+            (Request::TfsWrite, false),
+            (Request::TfsRead, false),
+            (Request::TfsRead, false),
+        ] {
+            let random = &mut self.comparison.random;
+            let mut arguments = tfs_arguments(random, &self.made, request);
+            if !other {
+                arguments.name = name.to_vec();
+            }
+            if request == Request::TfsCreate {
+                arguments.number = random.below(1500) as u32;
+            }
+            self.make(request, &arguments)?;
         }
         Ok(())
     }
@@ -134,39 +158,20 @@ impl<'a> History<'a> {
             request = Request::TfsCheck;
         }
         let mut arguments = tfs_arguments(random, &self.made, request);
-        twist(random, &self.past, request, &mut arguments);
+        twist(random, request, &mut arguments);
         (request, arguments)
     }
 
     fn note(&mut self, request: Request, arguments: &Arguments, answer: &Answer) {
-        let files = &mut self.made.files;
+        let Arguments { number, name, .. } = arguments;
         match request {
-            Request::TfsFormat => files.clear(),
-            Request::TfsRemove => files.retain(|file| file.name != arguments.name),
+            Request::TfsFormat => self.made.formatted(),
+            Request::TfsRemove => self.made.removed(name),
             Request::TfsCreate => {
-                let used = |slot: &usize| files.iter().any(|file| file.slot == *slot);
-                let file = File {
-                    slot: (0..SLOTS).find(|slot| !used(slot)).unwrap_or(SLOTS),
-                    name: arguments.name.clone(),
-                    inode: answer.value(),
-                    size: arguments.first,
-                    blocks: content_blocks(self.pair.image(), answer.value(), arguments.first),
-                };
-                self.past.push(file.clone());
-                files.push(file);
-                files.sort_by_key(|file| file.slot);
+                let image = self.pair.image();
+                self.made.created(image, name, answer.value(), *number);
             }
             _ => {}
         }
     }
-}
-
-/// The content blocks that an inode lists.
-fn content_blocks(image: &[u8], inode: u32, size: u32) -> Vec<u32> {
-    let words = image[inode as usize * BLOCK_SIZE..][..BLOCK_SIZE]
-        .as_chunks::<4>()
-        .0;
-    let count = (size as usize).div_ceil(BLOCK_SIZE);
-    let numbers = words.iter().skip(1).take(count);
-    numbers.map(|word| u32::from_be_bytes(*word)).collect()
 }

@@ -36,19 +36,18 @@ impl Large {
         self
     }
 
-    fn ask(&mut self, request: Request, first: u32, name: &[u8]) -> Answer {
-        let name = name.to_vec();
-        let arguments = Arguments {
-            first,
-            name,
-            ..Arguments::default()
-        };
-        self.transfer(request, &arguments)
+    fn ask(&mut self, request: Request, number: u32, name: &[u8]) -> Answer {
+        self.transfer(request, number, name, b"")
     }
 
     /// Makes a request on both programs; the bytes past block 4095 stay.
-    fn transfer(&mut self, request: Request, arguments: &Arguments) -> Answer {
-        let answer = self.pair.request(&mut self.random, request, arguments);
+    fn transfer(&mut self, request: Request, number: u32, name: &[u8], buffer: &[u8]) -> Answer {
+        let arguments = Arguments {
+            number,
+            name: name.to_vec(),
+            buffer: buffer.to_vec(),
+        };
+        let answer = self.pair.request(&mut self.random, request, &arguments);
         let answer = answer.unwrap_or_else(|difference| panic!("{difference}"));
         let image = self.pair.image();
         assert!(image[MOST.min(image.len())..] == self.past[..]);
@@ -96,17 +95,13 @@ fn block_4095_is_used() {
         let mut large = with_last_blocks(length);
         assert_eq!(large.ask(Request::TfsCheck, 0, b""), Answer::default());
         assert_eq!(large.free(), 2_095_616 - 1024);
-        assert_eq!(large.ask(Request::TfsOpen, 0, b"LAST").value(), 4094);
-        let mut arguments = Arguments {
-            first: 4094,
-            second: 2,
-            buffer: vec![0x55; 600],
-            ..Arguments::default()
-        };
-        assert_eq!(large.transfer(Request::TfsWrite, &arguments).value(), 510);
+        let listed = large.ask(Request::TfsList, 0, b"");
+        assert_eq!(listed.words[..6], [0, 0, 1, 4094, 512, 4]);
+        let written = large.transfer(Request::TfsWrite, 2, b"LAST", &[0x55; 600]);
+        assert_eq!(written.value(), 510);
         assert!(large.pair.image()[MOST - 510..MOST] == [0x55; 510]);
-        arguments.buffer = vec![0xAA; 600];
-        assert_eq!(large.transfer(Request::TfsRead, &arguments).value(), 510);
+        let read = large.transfer(Request::TfsRead, 2, b"LAST", &[0xAA; 600]);
+        assert_eq!(read.value(), 510);
         assert_eq!(large.ask(Request::TfsRemove, 0, b"LAST"), Answer::default());
         assert_eq!(large.pair.image()[512 + 508], 0);
         assert_eq!(large.free(), 2_095_616);
@@ -157,7 +152,12 @@ fn images_longer_than_4_gib() {
     assert_eq!(proved::tfs::free_bytes(&image), Ok(2_095_616));
     assert_eq!(reference::tfs::free_bytes(&image), Ok(2_095_616));
     assert_eq!(proved::tfs::create(&mut image, b"A", 1_000), Ok(3));
-    assert_eq!(reference::tfs::open(&image, b"A"), Ok(3));
+    let mut buffer = [0x55; 1_100];
+    assert_eq!(proved::tfs::write(&mut image, b"A", 9, &buffer), Ok(991));
+    assert_eq!(proved::tfs::read(&image, b"A", 0, &mut buffer), Ok(1_000));
+    let mut theirs = [0x55; 1_100];
+    let count = reference::tfs::read(&image, b"A", 0, &mut theirs);
+    assert_eq!((count, theirs), (Ok(1_000), buffer));
 
     let rom = tree_rom(3, 2, 5);
     image[..rom.image.len()].copy_from_slice(&rom.image);

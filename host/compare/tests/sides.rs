@@ -1,39 +1,45 @@
 //! The two programs agree, and the comparison finds programs that do not.
 
-use compare::sides::{proved, reference};
-use compare::{options, run, Answer, Found, Lents, Limits, Side, Tally};
-use reference::request::{Arguments, Request};
+mod sought;
 
-fn compared(words: &str, side: Side) -> (Tally, Option<Found>) {
-    let words = words.split(' ').map(str::to_owned);
-    let limits: Limits = options::parse(words).expect("options");
-    run(limits, [side, reference])
-}
+use compare::sides::{proved, reference};
+use compare::{options, Answer, Lents, Side};
+use reference::request::{Arguments, Request};
+use sought::{compared, found};
+
+/// The refusals that each request can give.
+const REFUSALS: [(Request, &[u32]); 12] = [
+    (Request::TfsFormat, &[1, 8]),
+    (Request::TfsCheck, &[1, 2, 3, 4, 5, 6, 7]),
+    (Request::TfsCreate, &[1, 2, 3, 4, 5, 6, 7, 8, 9, 10, 11, 12]),
+    (Request::TfsRemove, &[1, 2, 3, 4, 5, 6, 7, 8, 13]),
+    (Request::TfsRead, &[1, 2, 3, 4, 5, 6, 7, 8, 13, 15]),
+    (Request::TfsWrite, &[1, 2, 3, 4, 5, 6, 7, 8, 13, 15]),
+    (Request::TfsList, &[1, 2, 3, 4, 5, 6, 7, 14]),
+    (Request::TfsFree, &[1, 2, 3, 4, 5, 6, 7]),
+    (Request::RomCheck, &[21, 22, 23, 24, 25, 26, 27, 28, 29]),
+    (
+        Request::RomFind,
+        &[21, 22, 23, 24, 25, 26, 27, 28, 29, 30, 31],
+    ),
+    (Request::RomEntry, &[21, 22, 23, 24, 25, 26, 27, 28, 29, 31]),
+    (
+        Request::RomContent,
+        &[21, 22, 23, 24, 25, 26, 27, 28, 29, 31],
+    ),
+];
 
 #[test]
 fn both_agree_and_every_answer_is_met() {
     let (tally, found) = compared("--seed 7 --cases 40000", proved);
     assert!(found.is_none(), "{found:?}");
     assert_eq!(tally.requests(), 40_000);
-    for number in (1..=15).chain(21..=31) {
-        assert!(tally.seen(number) > 10, "refusal {number}");
-    }
-    for request in [
-        Request::TfsFormat,
-        Request::TfsCheck,
-        Request::TfsOpen,
-        Request::TfsCreate,
-        Request::TfsRemove,
-        Request::TfsRead,
-        Request::TfsWrite,
-        Request::TfsList,
-        Request::TfsFree,
-        Request::RomCheck,
-        Request::RomFind,
-        Request::RomEntry,
-        Request::RomContent,
-    ] {
+    for (request, refusals) in REFUSALS {
         assert!(tally.granted(request) > 100, "{request:?}");
+        let met: Vec<u32> = (1..32)
+            .filter(|number| tally.refused(request, *number) > 0)
+            .collect();
+        assert_eq!(met, refusals, "{request:?}");
     }
 }
 
@@ -56,15 +62,6 @@ fn bad_options_are_refused() {
         let words = words.split(' ').map(str::to_owned);
         assert!(options::parse(words).is_none());
     }
-}
-
-/// Finds a wrong program, and finds it again by the number of the image alone.
-fn found(side: Side) -> Found {
-    let (_, found) = compared("--seed 1 --cases 40000", side);
-    let found = found.expect("the wrong program is found");
-    let (_, again) = compared(&format!("--seed 1 --image {}", found.image), side);
-    assert_eq!(again.expect("found again").request, found.request);
-    found
 }
 
 #[test]
@@ -91,7 +88,7 @@ fn a_create_that_zeros_only_part_of_its_last_block() {
                 &before,
                 lents,
                 answer.value() as usize,
-                arguments.first as usize,
+                arguments.number as usize,
             );
         }
         answer

@@ -3,7 +3,8 @@
 use std::collections::HashSet;
 
 use generate::cases::{romfs_cases, tfs_cases, Case};
-use reference::request::Request;
+use reference::request::{Arguments, Request};
+use reference::tfs::{self, Listing};
 
 fn numbers(cases: &[Case]) -> HashSet<(Request, u32)> {
     cases
@@ -21,11 +22,10 @@ fn cases_meet_every_answer_and_stay_small() {
     }
     let wanted = [
         (Request::TfsFormat, vec![0, 1, 8]),
-        (Request::TfsOpen, vec![0, 8, 13]),
         (Request::TfsRemove, vec![0, 8, 13]),
         (Request::TfsCreate, vec![0, 8, 9, 10, 11, 12]),
-        (Request::TfsRead, vec![0, 14, 15]),
-        (Request::TfsWrite, vec![0, 14, 15]),
+        (Request::TfsRead, vec![0, 8, 13, 15]),
+        (Request::TfsWrite, vec![0, 8, 13, 15]),
         (Request::TfsList, vec![0, 14]),
         (Request::TfsFree, vec![0]),
     ];
@@ -52,6 +52,36 @@ fn cases_meet_every_answer_and_stay_small() {
         .any(|case| case.request == Request::RomContent && !case.answer.text.is_empty()));
 }
 
+/// Reads and writes on sound volumes: the request, the answer's number, whether the offset is past
+/// the end of every file, and whether the buffer is empty.
+fn transfers(cases: &[Case]) -> HashSet<(Request, u32, bool, bool)> {
+    let size = |image: &[u8], slot| match tfs::list(image, slot) {
+        Ok(Listing::Used { size, .. }) => size,
+        _ => 0,
+    };
+    let moves = |case: &&Case| matches!(case.request, Request::TfsRead | Request::TfsWrite);
+    let sound = |case: &&Case| tfs::check(&case.image).is_ok();
+    let told = |case: &Case| {
+        let Arguments { number, buffer, .. } = &case.arguments;
+        let past = (0..25).all(|slot| *number > size(&case.image, slot));
+        (case.request, case.answer.number, past, buffer.is_empty())
+    };
+    cases.iter().filter(moves).filter(sound).map(told).collect()
+}
+
+#[test]
+fn a_name_is_refused_before_an_offset() {
+    let met = transfers(&tfs_cases(1, 600, false));
+    for request in [Request::TfsRead, Request::TfsWrite] {
+        for (past, empty) in [(false, false), (false, true), (true, false), (true, true)] {
+            for number in [8, 13, if past { 15 } else { 0 }] {
+                let wanted = (request, number, past, empty);
+                assert!(met.contains(&wanted), "{wanted:?}");
+            }
+        }
+    }
+}
+
 #[test]
 fn the_same_seed_gives_the_same_cases() {
     assert_eq!(tfs_cases(5, 40, false), tfs_cases(5, 40, false));
@@ -63,6 +93,6 @@ fn the_same_seed_gives_the_same_cases() {
 fn large_cases_stand_at_the_end() {
     let cases = tfs_cases(5, 20, true);
     assert_eq!(cases.len(), 20);
-    assert!(cases[11..].iter().all(|case| case.image.len() >= 2_097_152));
-    assert!(cases[..11].iter().all(|case| case.image.len() < 100_000));
+    assert!(cases[9..].iter().all(|case| case.image.len() >= 2_097_152));
+    assert!(cases[..9].iter().all(|case| case.image.len() < 100_000));
 }

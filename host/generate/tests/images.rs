@@ -13,15 +13,19 @@ use generate::tfs::{
 };
 use generate::Random;
 use reference::romfs::{self, Entry};
-use reference::{tfs, Refusal};
+use reference::tfs::{self, Listing, SLOTS};
+use reference::Refusal;
+
+/// A damaged image and the fault owed to it, if there is a part to damage.
+type Damaged = Option<(Vec<u8>, Refusal)>;
 
 /// The checks of a filesystem, and how its images are damaged.
 struct Filesystem<T> {
     rules: RangeInclusive<u32>,
     check: fn(&[u8]) -> Result<(), Refusal>,
     literal: fn(&[u8]) -> naive::Fault,
-    damage: fn(&mut Random, &T, u32) -> Option<(Vec<u8>, Refusal)>,
-    damage_twice: fn(&mut Random, &T, (u32, u32)) -> Option<(Vec<u8>, Refusal)>,
+    damage: fn(&mut Random, &T, u32) -> Damaged,
+    damage_twice: fn(&mut Random, &T, (u32, u32)) -> Damaged,
 }
 
 const TFS: Filesystem<Volume> = Filesystem {
@@ -81,10 +85,52 @@ fn made_volumes_are_consistent() {
         let most = if round % 100 == 0 { 4096 } else { 200 };
         let made = any_volume(&mut random, most);
         assert_eq!(TFS.fault(&made.image), None);
-        for file in &made.files {
-            assert_eq!(tfs::open(&made.image, &file.name), Ok(file.inode));
+        for slot in 0..SLOTS {
+            let file = made.files.iter().find(|file| file.slot == slot);
+            let listed = file.map_or(Listing::Free, |file| Listing::Used {
+                name: &file.name,
+                inode: file.inode,
+                size: file.size,
+            });
+            assert_eq!(tfs::list(&made.image, slot as u32), Ok(listed));
         }
     }
+}
+
+#[test]
+fn names_of_gone_files_stand_again_or_not() {
+    let mut random = Random::new(16);
+    let (mut standing, mut absent) = (0, 0);
+    for _ in 0..200 {
+        let made = volume(&mut random, Shape::Lived, 24);
+        for file in &made.gone {
+            match tfs::read(&made.image, &file.name, 0, &mut []) {
+                Ok(_) => standing += 1,
+                Err(refusal) => {
+                    assert_eq!(refusal, Refusal::plain(13));
+                    absent += 1;
+                }
+            }
+        }
+    }
+    assert!(standing > 100 && absent > 100, "{standing} {absent}");
+}
+
+#[test]
+fn files_of_similar_names_stand_side_by_side() {
+    let mut random = Random::new(17);
+    let (mut begun, mut lettered) = (0, 0);
+    for _ in 0..400 {
+        let made = volume(&mut random, Shape::Crowded, 40);
+        for (index, file) in made.files.iter().enumerate() {
+            let others = made.files[..index].iter().map(|other| &other.name);
+            for other in others {
+                begun += usize::from(file.name.starts_with(other));
+                lettered += usize::from(file.name.eq_ignore_ascii_case(other));
+            }
+        }
+    }
+    assert!(begun > 100 && lettered > 100, "{begun} {lettered}");
 }
 
 #[test]
@@ -93,7 +139,7 @@ fn shapes_are_what_they_say() {
     for blocks in [3, 4, 5, 28, 29, 60, 131, 140, 4096] {
         let empty = volume(&mut random, Shape::Empty, blocks);
         assert_eq!(tfs::free_bytes(&empty.image), Ok(512 * (blocks as u32 - 3)));
-        if (4..200).contains(&blocks) {
+        if (4..=131).contains(&blocks) {
             let full = volume(&mut random, Shape::Full, blocks);
             assert_eq!(tfs::check(&full.image), Ok(()));
             assert!(tfs::free_bytes(&full.image).unwrap() <= 512 * 2, "{blocks}");

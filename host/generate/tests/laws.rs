@@ -1,19 +1,20 @@
 //! Round trips and laws over random requests on generated volumes.
 
-use std::collections::BTreeMap;
+use std::collections::{BTreeMap, HashMap};
+use std::mem::discriminant;
 
 use generate::tfs::{any_volume, Volume};
 use generate::Random;
-use reference::tfs::{check, create, free_bytes, list, open, read, remove, write, Listing};
+use reference::tfs::{check, create, free_bytes, list, read, remove, write, Listing};
 
 type Files = BTreeMap<Vec<u8>, Vec<u8>>;
 
 fn files(image: &[u8]) -> Files {
     (0..25)
         .filter_map(|slot| match list(image, slot) {
-            Ok(Listing::Used { name, inode, size }) => {
+            Ok(Listing::Used { name, size, .. }) => {
                 let mut content = vec![0; size as usize];
-                assert_eq!(read(image, inode, 0, &mut content), Ok(size));
+                assert_eq!(read(image, name, 0, &mut content), Ok(size));
                 Some((name.to_vec(), content))
             }
             _ => None,
@@ -30,11 +31,12 @@ fn rounds(seed: u64, count: usize, mut law: impl FnMut(&mut Random, Volume)) {
     }
 }
 
-fn some_handle(random: &mut Random, made: &Volume) -> u32 {
-    let inodes: Vec<u32> = made.files.iter().map(|file| file.inode).collect();
-    match random.choose(&inodes) {
-        Some(inode) if !random.one_in(8) => inode,
-        _ => random.below(made.blocks + 2) as u32,
+/// The name of a file of the volume, mostly, or one that no file has.
+fn name_in(random: &mut Random, made: &Volume) -> Vec<u8> {
+    let names: Vec<&[u8]> = made.files.iter().map(|file| &file.name[..]).collect();
+    match random.choose(&names) {
+        Some(name) if !random.one_in(8) => name.to_vec(),
+        _ => random.pick(&[&b""[..], b"none of them", b"A\0"]).to_vec(),
     }
 }
 
@@ -51,8 +53,13 @@ fn some_name(random: &mut Random, model: &Files) -> Vec<u8> {
 fn create_in_both(random: &mut Random, image: &mut [u8], model: &mut Files, name: Vec<u8>) -> bool {
     let size = random.below(2000);
     let made = create(image, &name, size as u32);
-    if made.is_ok() {
-        assert_eq!(open(image, &name), made);
+    if let Ok(inode) = made {
+        let listed = Listing::Used {
+            name: &name,
+            inode,
+            size: size as u32,
+        };
+        assert!((0..25).any(|slot| list(image, slot) == Ok(listed)));
         assert!(model.insert(name, vec![0; size]).is_none());
     }
     made.is_ok()
@@ -65,19 +72,47 @@ fn remove_in_both(image: &mut [u8], model: &mut Files, name: &[u8]) -> bool {
     removed.is_ok()
 }
 
+/// The count that is owed to a read or a write of a name, or the number of its refusal.
+fn owed(model: &Files, name: &[u8], offset: usize, length: usize) -> Result<usize, u32> {
+    let content = model.get(name).ok_or(13u32)?;
+    let behind = content.len().checked_sub(offset).ok_or(15u32)?;
+    Ok(length.min(behind))
+}
+
 /// Writes to the image and, if granted, to the model.
 fn write_in_both(random: &mut Random, image: &mut [u8], model: &mut Files, name: &[u8]) -> bool {
     let length = random.below(1500);
     let bytes = random.bytes(length);
     let offset = random.below(1500);
-    let handle = open(image, name);
-    let count = handle.and_then(|handle| write(image, handle, offset as u32, &bytes));
-    if let Ok(count) = count {
-        let count = count as usize;
+    let owed = owed(model, name, offset, length);
+    let count = write(image, name, offset as u32, &bytes);
+    assert_eq!(
+        count.map_err(|refusal| refusal.number),
+        owed.map(|count| count as u32)
+    );
+    if let Ok(count) = owed {
         let content = model.get_mut(name).unwrap();
-        assert_eq!(count, bytes.len().min(content.len() - offset));
         content[offset..offset + count].copy_from_slice(&bytes[..count]);
     }
+    count.is_ok()
+}
+
+/// Reads from the image what the model holds; the rest of the buffer stays.
+fn read_from_both(random: &mut Random, image: &[u8], model: &Files, name: &[u8]) -> bool {
+    let length = random.below(1500);
+    let mut buffer = random.bytes(length);
+    let mut expected = buffer.clone();
+    let offset = random.below(1500);
+    let owed = owed(model, name, offset, length);
+    if let Ok(count) = owed {
+        expected[..count].copy_from_slice(&model[name][offset..offset + count]);
+    }
+    let count = read(image, name, offset as u32, &mut buffer);
+    assert_eq!(
+        count.map_err(|refusal| refusal.number),
+        owed.map(|count| count as u32)
+    );
+    assert_eq!(buffer, expected);
     count.is_ok()
 }
 
@@ -98,9 +133,10 @@ fn requests_have_their_effect_and_no_other() {
         for _ in 0..30 {
             let before = image.clone();
             let name = some_name(random, &model);
-            let granted = match random.below(3) {
+            let granted = match random.below(4) {
                 0 => create_in_both(random, &mut image, &mut model, name),
                 1 => remove_in_both(&mut image, &mut model, &name),
+                2 => read_from_both(random, &image, &model, &name),
                 _ => write_in_both(random, &mut image, &mut model, &name),
             };
             assert!(granted || image == before);
@@ -128,19 +164,19 @@ fn create_then_remove_gives_directory_and_map_back() {
 #[test]
 fn pieces_are_one_joined_write() {
     rounds(23, 400, |random, made| {
-        let handle = some_handle(random, &made);
+        let name = name_in(random, &made);
         let start = random.below(1600) as u32;
         let (mut cut, mut joined) = (made.image.clone(), made.image);
         let (mut offset, mut sum, mut whole) = (start, 0, Vec::new());
         for _ in 0..random.below(6) {
             let length = random.pick(&[0, 1, 100, 511, 512, 513, 700]);
             let piece = random.bytes(length);
-            let count = write(&mut cut, handle, offset, &piece).unwrap_or(0);
+            let count = write(&mut cut, &name, offset, &piece).unwrap_or(0);
             offset += count;
             sum += count;
             whole.extend(piece);
         }
-        assert_eq!(write(&mut joined, handle, start, &whole).unwrap_or(0), sum);
+        assert_eq!(write(&mut joined, &name, start, &whole).unwrap_or(0), sum);
         assert_eq!(cut, joined);
     });
 }
@@ -151,17 +187,17 @@ fn a_byte_is_what_the_last_write_put_there() {
         let mut image = made.image.clone();
         let mut expected = made.image.clone();
         for _ in 0..random.below(12) {
-            let handle = some_handle(random, &made);
+            let name = name_in(random, &made);
             let offset = random.below(1600) as u32;
             let length = random.below(1200);
             let bytes = random.bytes(length);
-            let answer = write(&mut image, handle, offset, &bytes);
+            let answer = write(&mut image, &name, offset, &bytes);
             assert_eq!(
                 answer,
-                write(&mut made.image.clone(), handle, offset, &bytes)
+                write(&mut made.image.clone(), &name, offset, &bytes)
             );
             let Ok(count) = answer else { continue };
-            let file = made.files.iter().find(|file| file.inode == handle).unwrap();
+            let file = made.files.iter().find(|file| file.name == name).unwrap();
             for (index, byte) in bytes[..count as usize].iter().enumerate() {
                 let position = offset as usize + index;
                 let block = file.blocks[position / 512] as usize;
@@ -172,46 +208,51 @@ fn a_byte_is_what_the_last_write_put_there() {
     });
 }
 
-#[derive(Clone)]
 enum Step {
     Create(Vec<u8>, u32),
     Remove(Vec<u8>),
-    Write(u32, u32, Vec<u8>),
+    Write(Vec<u8>, u32, Vec<u8>),
 }
 
 impl Step {
+    /// A create of a new name, or a remove or a write of a name that stands.
+    fn draw(random: &mut Random, kind: usize, new: &[u8], standing: Option<Vec<u8>>) -> Self {
+        match (kind, standing) {
+            (1, Some(name)) => Self::Remove(name),
+            (2, Some(name)) => Self::Write(name, random.below(700) as u32, random.bytes(900)),
+            _ => Self::Create(new.to_vec(), random.below(1500) as u32),
+        }
+    }
+
     fn run(&self, image: &mut [u8]) -> bool {
         match self {
             Self::Create(name, size) => create(image, name, *size).is_ok(),
             Self::Remove(name) => remove(image, name).is_ok(),
-            Self::Write(handle, offset, bytes) => write(image, *handle, *offset, bytes).is_ok(),
+            Self::Write(name, offset, bytes) => write(image, name, *offset, bytes).is_ok(),
         }
     }
 }
 
 #[test]
 fn two_steps_on_different_names_commute() {
-    let mut granted = 0;
-    rounds(25, 1500, |random, made| {
+    let mut granted = HashMap::new();
+    rounds(25, 3000, |random, made| {
         let mut names: Vec<Vec<u8>> = made.files.iter().map(|file| file.name.clone()).collect();
-        names.extend([b"new one".to_vec(), b"new two".to_vec()]);
         random.shuffle(&mut names);
-        let mut step = |name: &Vec<u8>| match random.below(3) {
-            0 => Step::Remove(name.clone()),
-            1 => match open(&made.image, name) {
-                Ok(handle) => Step::Write(handle, random.below(700) as u32, random.bytes(900)),
-                Err(_) => Step::Create(name.clone(), random.below(1500) as u32),
-            },
-            _ => Step::Create(name.clone(), random.below(1500) as u32),
+        let mut step = |new| {
+            let kind = random.below(3);
+            Step::draw(random, kind, new, names.pop())
         };
-        let (one, two) = (step(&names[0]), step(&names[1]));
+        let (one, two) = (step(b"new one"), step(b"new two"));
         let (mut left, mut right) = (made.image.clone(), made.image.clone());
         let left_granted = one.run(&mut left) & two.run(&mut left);
         let right_granted = two.run(&mut right) & one.run(&mut right);
         if left_granted && right_granted {
             assert_eq!(files(&left), files(&right));
-            granted += 1;
+            let kinds = (discriminant(&one), discriminant(&two));
+            *granted.entry(kinds).or_insert(0) += 1;
         }
     });
-    assert!(granted > 100);
+    assert_eq!(granted.len(), 9);
+    assert!(granted.values().all(|count| *count > 20), "{granted:?}");
 }

@@ -8,7 +8,7 @@ use crate::{told, Refusal};
 pub struct File {
     /// The name, without its padding.
     pub name: Vec<u8>,
-    /// The inode number, which is the handle.
+    /// The inode number.
     pub inode: u32,
     /// The size in bytes.
     pub size: u32,
@@ -24,12 +24,7 @@ pub fn check(image: &[u8]) -> Result<(), Refusal> {
     c::check(image).told().map(drop)
 }
 
-/// The handle of a file.
-pub fn open(image: &[u8], name: &[u8]) -> Result<u32, Refusal> {
-    c::open(image, name).told()
-}
-
-/// Creates a file of zeros; its handle.
+/// Creates a file of zeros; its inode number.
 pub fn create(image: &mut [u8], name: &[u8], size: u32) -> Result<u32, Refusal> {
     c::create(image, name, size).told()
 }
@@ -39,14 +34,14 @@ pub fn remove(image: &mut [u8], name: &[u8]) -> Result<(), Refusal> {
     c::remove(image, name).told().map(drop)
 }
 
-/// Reads into the buffer; the count.
-pub fn read(image: &[u8], handle: u32, offset: u32, buffer: &mut [u8]) -> Result<u32, Refusal> {
-    c::read(image, handle, offset, buffer).told()
+/// Reads the file of a name into the buffer; the count.
+pub fn read(image: &[u8], name: &[u8], offset: u32, buffer: &mut [u8]) -> Result<u32, Refusal> {
+    c::read(image, name, offset, buffer).told()
 }
 
-/// Writes the buffer into the file; the count.
-pub fn write(image: &mut [u8], handle: u32, offset: u32, buffer: &[u8]) -> Result<u32, Refusal> {
-    c::write(image, handle, offset, buffer).told()
+/// Writes the buffer into the file of a name; the count.
+pub fn write(image: &mut [u8], name: &[u8], offset: u32, buffer: &[u8]) -> Result<u32, Refusal> {
+    c::write(image, name, offset, buffer).told()
 }
 
 /// What stands in a slot: nothing, or a file.
@@ -57,7 +52,11 @@ pub fn list(image: &[u8], slot: u32) -> Result<Option<File>, Refusal> {
         return Ok(None);
     }
     let name = listed.name[..listed.name_length as usize].to_vec();
-    Ok(Some(File { name, inode: listed.inode, size: listed.size }))
+    Ok(Some(File {
+        name,
+        inode: listed.inode,
+        size: listed.size,
+    }))
 }
 
 /// The free bytes.

@@ -11,39 +11,35 @@ pub enum Request {
     TfsCheck = 1,
     /// Format with a name.
     TfsFormat = 2,
-    /// Open of a name.
-    TfsOpen = 3,
-    /// Create of a name with a size as first number.
-    TfsCreate = 4,
+    /// Create of a name with a size.
+    TfsCreate = 3,
     /// Remove of a name.
-    TfsRemove = 5,
-    /// Read with a handle and an offset into a buffer.
-    TfsRead = 6,
-    /// Write with a handle and an offset out of a buffer.
-    TfsWrite = 7,
+    TfsRemove = 4,
+    /// Read of a name from an offset on into a buffer.
+    TfsRead = 5,
+    /// Write of a name from an offset on out of a buffer.
+    TfsWrite = 6,
     /// List of a slot.
-    TfsList = 8,
+    TfsList = 7,
     /// Free bytes.
-    TfsFree = 9,
+    TfsFree = 8,
     /// Check of a romfs image.
     RomCheck = 17,
-    /// Find of a name in the directory at the first number.
+    /// Find of a name in a directory.
     RomFind = 18,
-    /// Entry at the first number.
+    /// Entry at a header.
     RomEntry = 19,
-    /// Length of the content at the first number.
+    /// Length of the content of a header.
     RomLength = 20,
-    /// Content at the first number.
+    /// Content of a header.
     RomContent = 21,
 }
 
 /// What a request is given besides the image.
 #[derive(Clone, Debug, Default, PartialEq, Eq)]
 pub struct Arguments {
-    /// The handle, size, slot, directory or header.
-    pub first: u32,
-    /// The offset.
-    pub second: u32,
+    /// The size, offset, slot, directory or header.
+    pub number: u32,
     /// The name.
     pub name: Vec<u8>,
     /// The buffer as it is before the request.
@@ -60,24 +56,24 @@ pub fn run(
     image: &mut [u8],
     buffer: &mut [u8],
 ) -> Result<Granted, Refusal> {
-    let Arguments { first, second, .. } = *arguments;
-    let name = &arguments.name;
+    let Arguments {
+        number, ref name, ..
+    } = *arguments;
     match request {
         Request::TfsCheck => tfs::check(image).map(nothing),
         Request::TfsFormat => tfs::format(image, name).map(nothing),
-        Request::TfsOpen => tfs::open(image, name).map(one),
-        Request::TfsCreate => tfs::create(image, name, first).map(one),
+        Request::TfsCreate => tfs::create(image, name, number).map(one),
         Request::TfsRemove => tfs::remove(image, name).map(nothing),
-        Request::TfsRead => tfs::read(image, first, second, buffer).map(one),
-        Request::TfsWrite => tfs::write(image, first, second, buffer).map(one),
-        Request::TfsList => tfs::list(image, first).map(listed),
+        Request::TfsRead => tfs::read(image, name, number, buffer).map(one),
+        Request::TfsWrite => tfs::write(image, name, number, buffer).map(one),
+        Request::TfsList => tfs::list(image, number).map(listed),
         Request::TfsFree => tfs::free_bytes(image).map(one),
         Request::RomCheck => romfs::check(image).map(nothing),
-        Request::RomFind => romfs::find(image, first, name).map(one),
-        Request::RomEntry => romfs::entry(image, first).map(described),
-        Request::RomLength => romfs::content_length(image, first).map(one),
+        Request::RomFind => romfs::find(image, number, name).map(one),
+        Request::RomEntry => romfs::entry(image, number).map(described),
+        Request::RomLength => romfs::content_length(image, number).map(one),
         Request::RomContent => {
-            let content = romfs::content(image, first);
+            let content = romfs::content(image, number);
             Ok((vec![content.len() as u32], content.to_vec()))
         }
     }

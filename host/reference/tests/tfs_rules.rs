@@ -1,6 +1,6 @@
 //! The numbers and the slips that the rules name, for TFS.
 
-use reference::tfs::{check, create, format, free_bytes, list, open, read, remove, write, Listing};
+use reference::tfs::{check, create, format, free_bytes, list, read, remove, write, Listing};
 use reference::Refusal;
 
 fn plain<T>(number: u32) -> Result<T, Refusal> {
@@ -48,7 +48,6 @@ fn create_of_timing() {
     assert!(image[1548..3072].iter().all(|&byte| byte == 0));
     assert!(image[3072..].iter().all(|&byte| byte == 0x5A));
     assert_eq!(free_bytes(&image), Ok(62_464));
-    assert_eq!(open(&image, b"TIMING"), Ok(3));
     let listed = Listing::Used {
         name: b"TIMING",
         inode: 3,
@@ -62,22 +61,22 @@ fn create_of_timing() {
 fn counts_at_the_end_of_a_file() {
     let mut image = pump();
     let mut buffer = [7; 200];
-    assert_eq!(read(&image, 3, 900, &mut buffer), Ok(100));
+    assert_eq!(read(&image, b"TIMING", 900, &mut buffer), Ok(100));
     assert_eq!(
         (buffer[..100].to_vec(), buffer[100..].to_vec()),
         (vec![0; 100], vec![7; 100])
     );
-    assert_eq!(read(&image, 3, 1_000, &mut buffer), Ok(0));
-    assert_eq!(read(&image, 3, 1_001, &mut buffer), plain(15));
-    assert_eq!(read(&image, 3, 1_001, &mut []), plain(15));
-    assert_eq!(read(&image, 3, u32::MAX, &mut buffer), plain(15));
-    assert_eq!(read(&image, 3, 5, &mut []), Ok(0));
+    assert_eq!(read(&image, b"TIMING", 1_000, &mut buffer), Ok(0));
+    assert_eq!(read(&image, b"TIMING", 1_001, &mut buffer), plain(15));
+    assert_eq!(read(&image, b"TIMING", 1_001, &mut []), plain(15));
+    assert_eq!(read(&image, b"TIMING", u32::MAX, &mut buffer), plain(15));
+    assert_eq!(read(&image, b"TIMING", 5, &mut []), Ok(0));
     let before = image.clone();
-    assert_eq!(write(&mut image, 3, 990, &[9; 30]), Ok(10));
+    assert_eq!(write(&mut image, b"TIMING", 990, &[9; 30]), Ok(10));
     let mut expected = before;
     expected[5 * 512 + 478..5 * 512 + 488].fill(9);
     assert_eq!(image, expected);
-    assert_eq!(write(&mut image, 3, 1_001, &[1]), plain(15));
+    assert_eq!(write(&mut image, b"TIMING", 1_001, &[1]), plain(15));
     assert_eq!(image, expected);
 }
 
@@ -148,34 +147,72 @@ fn names_that_are_refused() {
     let mut image = pump();
     let names: [&[u8]; 6] = [b"", b"\0", b"a\0", b"TIMING\0", &[b'a'; 16], &[b'a'; 4_000]];
     for name in names {
-        assert_eq!(open(&image, name), plain(8));
         assert_eq!(create(&mut image, name, 0), plain(8));
         assert_eq!(remove(&mut image, name), plain(8));
+        assert_eq!(refused_transfers(&image, name), 8);
         let allowed = if name.is_empty() { Ok(()) } else { plain(8) };
         assert_eq!(format(&mut image.clone(), name), allowed);
     }
-    assert_eq!(open(&image, b"TIMIN"), plain(13));
-    assert_eq!(open(&image, b"TIMINGS"), plain(13));
-    assert_eq!(remove(&mut image, b"timing"), plain(13));
     assert_eq!(create(&mut image, &[b'a'; 15], 0), Ok(6));
 }
 
 #[test]
-fn only_an_inode_in_a_used_slot_is_a_handle() {
+fn names_that_do_not_stand() {
     let mut image = pump();
-    let before = image.clone();
-    for handle in [0, 1, 2, 4, 5, 6, 127, 128, 129, 0x1_0003, u32::MAX] {
-        let mut buffer = [7; 4];
-        assert_eq!(read(&image, handle, 0, &mut buffer), plain(14));
-        assert_eq!(read(&image, handle, u32::MAX, &mut buffer), plain(14));
-        assert_eq!(buffer, [7; 4]);
-        assert_eq!(write(&mut image, handle, 0, &[1]), plain(14));
+    let names: [&[u8]; 8] = [
+        b"TIMIN", b"TIMINGS", b"timing", b"Timing", b"TIMINh", b"TIMING ", b"\x03", b"PUMP",
+    ];
+    for name in names {
+        assert_eq!(remove(&mut image, name), plain(13));
+        assert_eq!(refused_transfers(&image, name), 13);
     }
-    assert_eq!(image, before);
+}
+
+/// The refusal of reads and writes of a name at any offset, which change nothing.
+fn refused_transfers(image: &[u8], name: &[u8]) -> u32 {
+    let mut numbers = Vec::new();
+    for offset in [0, 999, 1_000, 1_001, u32::MAX] {
+        for length in [0, 4] {
+            let (mut after, mut buffer) = (image.to_vec(), vec![7; length]);
+            let answers = [
+                read(image, name, offset, &mut buffer),
+                write(&mut after, name, offset, &vec![9; length]),
+            ];
+            assert_eq!((&after[..], &buffer), (image, &vec![7; length]));
+            numbers.extend(answers.map(|answer| answer.unwrap_err()));
+        }
+    }
+    numbers.dedup();
+    assert_eq!((numbers.len(), numbers[0].place), (1, 0));
+    numbers[0].number
+}
+
+#[test]
+fn a_name_means_the_file_that_has_it_now() {
+    let mut image = pump();
+    write(&mut image, b"TIMING", 0, &[0x33; 1_000]).unwrap();
     remove(&mut image, b"TIMING").unwrap();
-    assert_eq!(read(&image, 3, 0, &mut []), plain(14));
-    assert_eq!(create(&mut image, b"OTHER", 4), Ok(3));
-    assert_eq!(read(&image, 3, 0, &mut [0; 9]), Ok(4));
+    assert_eq!(refused_transfers(&image, b"TIMING"), 13);
+    assert_eq!(create(&mut image, b"OTHER", 600), Ok(3));
+    assert_eq!(refused_transfers(&image, b"TIMING"), 13);
+    assert_eq!(create(&mut image, b"TIMING", 4), Ok(6));
+
+    let mut buffer = [7; 9];
+    assert_eq!(read(&image, b"TIMING", 0, &mut buffer), Ok(4));
+    assert_eq!(buffer, [0, 0, 0, 0, 7, 7, 7, 7, 7]);
+    assert_eq!(read(&image, b"TIMING", 5, &mut buffer), plain(15));
+    let mut expected = image.clone();
+    expected[7 * 512 + 1..7 * 512 + 4].fill(9);
+    assert_eq!(write(&mut image, b"TIMING", 1, &[9; 9]), Ok(3));
+    assert_eq!(image, expected);
+    assert_eq!(read(&image, b"OTHER", 0, &mut buffer), Ok(9));
+    assert_eq!(buffer, [0; 9]);
+}
+
+#[test]
+fn slots_over_24_are_none() {
+    let image = pump();
+    assert_eq!(list(&image, 24), Ok(Listing::Free));
     for slot in [25, 26, 256, 0x1_0000, u32::MAX] {
         assert_eq!(list(&image, slot), plain(14));
     }
@@ -237,7 +274,7 @@ fn ignored_bytes_are_kept_but_by_format() {
 #[test]
 fn remove_touches_only_map_and_slot() {
     let mut image = pump();
-    write(&mut image, 3, 0, &[0x33; 1_000]).unwrap();
+    write(&mut image, b"TIMING", 0, &[0x33; 1_000]).unwrap();
     let mut expected = image.clone();
     expected[515] = 7;
     expected[1024..1044].fill(0);
@@ -272,13 +309,12 @@ fn faults_come_in_the_order_of_the_rules() {
     assert_eq!(check(&image), plain(3));
     image[0] = 1;
     assert_eq!(check(&image), plain(2));
-    assert_eq!(open(&image, b""), plain(2));
     assert_eq!(list(&image, 99), plain(2));
     assert_eq!(free_bytes(&image), plain(2));
     assert_eq!(create(&mut image, b"", u32::MAX), plain(2));
     assert_eq!(remove(&mut image, b""), plain(2));
-    assert_eq!(read(&image, 0, 0, &mut []), plain(2));
-    assert_eq!(write(&mut image, 0, 0, &[]), plain(2));
+    assert_eq!(read(&image, b"", u32::MAX, &mut []), plain(2));
+    assert_eq!(write(&mut image, b"", u32::MAX, &[]), plain(2));
 }
 
 #[test]

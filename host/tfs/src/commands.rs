@@ -46,7 +46,7 @@ NAME is the volume's name, of at most 15 bytes. --force replaces a file that sta
     Command {
         name: "list",
         usage: "IMAGE",
-        about: "Prints a line for each file: slot, handle, size, name.
+        about: "Prints a line for each file: slot, inode number, size, name.
 In names the backslash and bytes that are not printable ASCII are written \\xNN.",
         words: (1, 1),
         options: NO_OPTIONS,

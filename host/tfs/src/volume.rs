@@ -88,8 +88,8 @@ fn store(volume: &mut [u8], name: &[u8], content: &[u8], replace: bool) -> Resul
             _ => {}
         }
     }
-    let handle = tfs::create(volume, name, content.len() as u32)?;
-    tfs::write(volume, handle, 0, content)
+    tfs::create(volume, name, content.len() as u32)?;
+    tfs::write(volume, name, 0, content)
 }
 
 /// Gets a file out of a volume.
@@ -122,9 +122,8 @@ fn as_host_file(name: &OsStr) -> Result<&Path, Failure> {
 }
 
 fn fetch(volume: &[u8], name: &[u8]) -> Result<Vec<u8>, Refusal> {
-    let handle = tfs::open(volume, name)?;
     let mut content = vec![0; LARGEST_FILE];
-    let count = tfs::read(volume, handle, 0, &mut content)?;
+    let count = tfs::read(volume, name, 0, &mut content)?;
     content.truncate(count as usize);
     Ok(content)
 }

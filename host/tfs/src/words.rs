@@ -46,7 +46,7 @@ fn plain(number: u32) -> &'static str {
         11 => "there is no free slot",
         12 => "there are too few free blocks",
         13 => "no file has this name",
-        14 => "no file has this handle, or the slot is over 24",
+        14 => "the slot is over 24",
         15 => "the offset is greater than the file's size",
         21 => "the image is under 32 bytes",
         22 => "the image does not begin with \"-rom1fs-\"",

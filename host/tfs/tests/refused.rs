@@ -72,10 +72,33 @@ fn a_name_stands_or_does_not() {
     let folder = Folder::new("stands");
     folder.tfs("make v --size 64K").granted();
     folder.write("in", &some(10));
-    folder.refused("get v in out", 1, "v: refused 13: no file has this name");
-    folder.refused("remove v in", 1, "v: refused 13: no file has this name");
+    let absent = "v: refused 13: no file has this name";
+    folder.refused("get v in out", 1, absent);
+    folder.refused("remove v in", 1, absent);
     folder.tfs("put v in").granted();
     folder.refused("put v in", 1, "v: refused 10: the name stands already");
+    for name in ["i", "inn", "im", "IN"] {
+        folder.refused(&format!("get v {name} out"), 1, absent);
+        folder.refused(&format!("remove v {name}"), 1, absent);
+    }
+}
+
+#[test]
+fn a_removed_name_is_gone_until_it_is_put_again() {
+    let folder = Folder::new("removed");
+    folder.tfs("make v --size 64K").granted();
+    folder.write("old", &some(700));
+    folder.write("new", &some(90)[40..]);
+    folder.tfs("put v old --name f").granted();
+    folder.tfs("remove v f").granted();
+    folder.tfs("put v old --name g").granted();
+    folder.refused("get v f out", 1, "v: refused 13: no file has this name");
+    folder.tfs("put v new --name f").granted();
+    assert_eq!(folder.tfs("get v f -").granted(), &some(90)[40..]);
+    assert_eq!(
+        folder.tfs("list v").text(),
+        " 0    3   700 g\n 1    6    50 f\n"
+    );
 }
 
 #[test]

@@ -44,7 +44,7 @@ fn what_is_put_is_got_back() {
 }
 
 #[test]
-fn the_list_has_slot_handle_size_and_name() {
+fn the_list_has_slot_inode_number_size_and_name() {
     let folder = Folder::new("list");
     folder.tfs("make v --size 64K").granted();
     assert_eq!(folder.tfs("list v").text(), "");

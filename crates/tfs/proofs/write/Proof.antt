@@ -10,7 +10,7 @@ use Rattle.tfs.specs.Passed.{at-fault, at-passed, fault-fits}
 use Rattle.tfs.proofs.write.Statement.{statement}
 use Rattle.tfs.proofs.write.Tie as tie
 
-passed : (c : tie.After-enum-told) → check 512 (now (c .before .before .before .before .before .before .args .image)) ≡ consistent
+passed : (c : tie.After-enum-told) → check 512 (now (c .before .before .before .before .before .before .before .args .image)) ≡ consistent
 passed c = sym (c .before .before .check .ensures .0) ∙ ap checkTold (c .enum-told .given .1)
 
 returns : tie.Need-returns
@@ -19,7 +19,7 @@ returns c =
     let found = c .before .before .before in
     let call = found .check in
     let f = c .before .f .given in
-    let e = at-fault (call .result) _ (call .ensures .0) (refuse (now (found .before .before .before .before .args .image)) []) _ (f .0 .0) (f .1) in
+    let e = at-fault (call .result) _ (call .ensures .0) (refuse (now (found .before .before .before .before .before .args .image)) []) _ (f .0 .0) (f .1) in
     (ap (λ (o : Outcome). o .answer) e, ap (λ (o : Outcome). o .image) e, fault-fits (call .result) (f .0 .0) (f .1) (call .ensures .1))
 
 returns-2 : tie.Need-returns-2
@@ -29,7 +29,7 @@ returns-2 c =
     let told = step .before .before in
     let found = told .before .before in
     let call = found .check in
-    let e = at-passed (call .result) _ (call .ensures .0) (refuse (now (found .before .before .before .before .args .image)) []) _ (told .enum-told .given .1) in (
+    let e = at-passed (call .result) _ (call .ensures .0) (refuse (now (found .before .before .before .before .before .args .image)) []) _ (told .enum-told .given .1) in (
       c .answer-of .ensures .0 ∙ step .write-step .ensures .0 ∙ ap (λ (o : Outcome). o .answer) e,
       step .write-step .ensures .1 ∙ ap (λ (o : Outcome). o .image) e,
       c .answer-of .ensures .1,

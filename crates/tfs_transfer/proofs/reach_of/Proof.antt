@@ -1,72 +1,61 @@
 -- `reach_of` meets its contract: one law for each way out; a passed check says what the calls require.
-use mathlib.Core.Path.{sym}
+use mathlib.Core.Path.{_≡_, sym}
 use native.Mathlib.Omega.{arith}
 use denote.Ref.{now}
 use borrow.Author.Needs.{needs}
-use Rattle.tfs_steps.specs.Ready.{long}
-use Rattle.tfs_transfer.specs.Transfer.{absent, Held, held, held-in, held-small, held-few, beyond, listed, listed-fits, Moves, moves, allowed}
+use Rattle.tfs_spec.specs.Layout.{view, size}
+use Rattle.tfs_steps.specs.Ready.{long, file-ready, sized}
+use Rattle.tfs_transfer.specs.Transfer.{beyond, moves, allowed, listed}
 use Rattle.tfs_transfer.proofs.reach_of.Statement.{statement}
 use Rattle.tfs_transfer.proofs.reach_of.Tie as tie
 
--- the start, from the places where the slot is found and the bytes are counted
-abbrev found-start : tie.Else1 → tie.Start
-found-start c = c .before .before .before
+-- the start, from the place where the inode number is read
+abbrev start : tie.After-inode-at → tie.Start
+start c = c .before .before
 
-abbrev count-start : tie.After-count-of → tie.Start
-count-start c = found-start (c .before .before .before)
+size-is : (c : tie.After-file-size) → c .file-size .result ≡ size (view 512 (now (start (c .before) .args .image))) (start (c .before) .args .s)
+size-is c =
+    let start = start (c .before) in
+    sized _ (start .pre .0) _ (start .pre .1) (c .before .inode-at .result) (c .file-size .result) (c .before .inode-at .ensures) (c .file-size .ensures)
 
-file : (c : tie.Else1) → Held (now (found-start c .args .image)) (found-start c .args .handle)
-file c =
-    let start = found-start c in
-    held (now (start .args .image)) (start .args .handle) (c .before .slot-with .result) (start .pre) (c .before .slot-with .ensures) (c .if1 .left)
+inode-at-requires : tie.Need-inode-at-requires
+inode-at-requires c κs = let start = c .before in (long _ (start .pre .0), start .pre .1 .slot)
 
-count : (c : tie.After-count-of) → Moves (now (count-start c .args .image)) (count-start c .args .handle) (count-start c .args .offset) (count-start c .args .len) (c .count-of .result)
-count c =
-    let start = count-start c in
-    moves (c .before .before .file-size .result) (start .args .offset) (start .args .len) (c .count-of .result)
-    (file (c .before .before .before)) (c .before .before .file-size .ensures) (omega arith) (c .count-of .ensures)
+file-size-requires : tie.Need-file-size-requires
+file-size-requires c κs =
+    let start = start c in
+    file-ready _ (start .pre .0) _ (start .pre .1) (c .inode-at .result) (c .inode-at .ensures) .0
 
 returns : tie.Need-returns
 returns c =
-    let start = c .before .before .before in
-    (sym (absent (now (start .args .image)) (start .args .handle) (c .before .slot-with .result) (start .args .offset) (start .args .len) (c .before .slot-with .ensures) (c .if1 .taken)), omega arith)
-
-returns-2 : tie.Need-returns-2
-returns-2 c =
-    let found = c .before .before in
-    let start = found-start found in
-    (sym (beyond (file found) (c .before .file-size .result) (start .args .offset) (start .args .len) (c .before .file-size .ensures) (c .if2 .taken)), omega arith)
+    let start = start (c .before .before) in
+    (beyond _ _ (c .before .file-size .result) (start .args .offset) (start .args .len) (size-is (c .before)) (c .if1 .taken), omega arith)
 
 file-blocks-requires : tie.Need-file-blocks-requires
 file-blocks-requires c κs =
-    let f = file (c .before .before .before .before) in
-    (held-in f, held-small f, held-few f)
+    let read = c .before .before .before .before in
+    let start = start read in
+    file-ready _ (start .pre .0) _ (start .pre .1) (read .inode-at .result) (read .inode-at .ensures)
 
-returns-3 : tie.Need-returns-3
-returns-3 c =
+returns-2 : tie.Need-returns-2
+returns-2 c =
     let counted = c .before .before in
-    let start = count-start counted in
-    let img = now (start .args .image) in
+    let sized = counted .before .before in
+    let read = sized .before in
+    let start = start read in
     let made = c .file-blocks in
-    let m = count counted in (
-      sym (allowed m),
-      (
-        m,
-        search needs,
-        listed-fits img (start .args .handle) (made .last .1 .1 .0) (now (start .args .list)) (made .result) (made .ensures .0) (made .ensures .1),
-        listed img (start .args .handle) (made .last .1 .1 .0) (now (start .args .list)) (made .result) (made .ensures .0) (made .ensures .1),
-      ),
-    )
+    let m = moves _ _ (sized .file-size .result) (start .args .offset) (start .args .len) (size-is sized) (counted .count-of .result) (counted .before .if1 .left) (counted .count-of .ensures) in
+    (sym (allowed m), (m, listed _ _ (read .inode-at .result) (made .result) (made .last .1 .1 .0) _ (read .inode-at .ensures) (made .ensures .0) (made .ensures .1)))
 
 pub reach-of-spec : {M : Type 1} → statement M
 reach-of-spec =
     tie.close
     (tie.spec
-    (λ c κs. long (now (c .before .args .image)) (c .before .pre))
+    inode-at-requires
+    (λ c. search needs)
+    file-size-requires
     returns
-    (λ c κs. held-in (file c))
-    returns-2
     (λ c κs. search needs)
     file-blocks-requires
     (λ c. search needs)
-    returns-3)
+    returns-2)

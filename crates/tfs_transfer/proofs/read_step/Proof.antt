@@ -1,61 +1,42 @@
--- `read_step` meets its contract: by the case that `reach_of` gives.
-use mathlib.Core.Path.{refl, sym, ap, subst, _∙_}
-use native.Mathlib.Omega.{arith}
-use lib.ListN.{length}
+-- `read_step` meets its contract: the lookup's refusal as it is, or what `read_file` does with the file in its slot.
+use mathlib.Core.Path.{_≡_, refl, sym, ap, _∙_}
 use denote.Ref.{now}
 use borrow.Author.Needs.{needs}
-use Rattle.tfs_steps.specs.Refuses.{refuses}
-use Rattle.tfs_transfer.specs.Transfer.{reachTold, Reaches, allowed, blocks-inside, blocks-few, blocks-reach, read-all}
-use Rattle.tfs_transfer.specs.declared.Reach.{Reach}
-use Rattle.tfs_transfer.specs.declared.Reach.the-variants.{Bytes}
+use Rattle.tfs_spec.specs.Layout.{view}
+use Rattle.tfs_spec.specs.Requests.{lookup, inSlot}
+use Rattle.tfs_facts.specs.Lookups.{lookup-file, lookup-number}
+use Rattle.tfs_dir.specs.Lookup.{lookupTold}
+use Rattle.tfs_steps.specs.Ready.{long}
 use Rattle.tfs_transfer.proofs.read_step.Statement.{statement}
 use Rattle.tfs_transfer.proofs.read_step.Tie as tie
 
-abbrev found : tie.After-known-told2 → tie.After-reach-of
-found c = c .before .before .before
-
-abbrev start : tie.After-reach-of → tie.Start
+abbrev start : tie.After-look-up → tie.Start
 start c = c .before .before .before .before
 
-abbrev Found : tie.After-reach-of → Reach → Type 0
-Found c r = Reaches (now (start c .args .image)) (start c .args .handle) (start c .args .offset) (length (now (start c .args .buf))) (c .reach-of .last .1 .1 .1 .1 .0) r
+slot : (c : tie.After-s) → lookup 512 (view 512 (now (start (c .before .before) .args .image))) (now (start (c .before .before) .args .name)) ≡ inSlot (c .s .given .0 .0)
+slot c = sym (c .before .before .look-up .ensures) ∙ ap lookupTold (c .s .given .1)
 
-reached : (c : tie.After-known-told2) → Found (found c) (Bytes (c .before .count .given .0 .0) (c .before .count .given .0 .1 .0))
-reached c = subst (Found (found c)) (c .before .count .given .1) (found c .reach-of .ensures .1)
-
-read-runs-requires : tie.Need-read-runs-requires
-read-runs-requires c κs =
-    let known = c .before .before .before in
-    let (m, some, fits, blocks) = reached known in
-    (blocks-inside (m .holds) _ blocks, omega (arith, m .count), omega (arith, blocks-reach m _ blocks), blocks-few (m .holds) _ blocks)
+read-file-requires : tie.Need-read-file-requires
+read-file-requires c κs =
+    let found = c .before .before in
+    (start (found .before .before) .pre, lookup-file 512 _ _ _ (slot found) .0)
 
 returns : tie.Need-returns
 returns c =
-    let found = c .before .before .before in
-    let e = c .before .n .given .1 in
-    refuses (c .before .n .given .0 .0) _ _ _ (subst (Found found) e (found .reach-of .ensures .1)) (ap reachTold (sym e) ∙ found .reach-of .ensures .0)
+    let d = sym (c .before .before .before .look-up .ensures) ∙ ap lookupTold (c .before .n .given .1) in
+    rw d (refl, refl, lookup-number 512 _ _ _ d)
 
 returns-2 : tie.Need-returns-2
-returns-2 c =
-    let run = c .before .before in
-    let known = run .before .before .before .before in
-    let start = start (found known) in
-    let r = reached known in
-    rw (allowed (r .0))
-    (refl, read-all (r .0) _ (r .3) (now (start .args .buf)) (run .read-runs .last .1 .1 .1 .0) refl (run .read-runs .ensures), tt)
+returns-2 c = let call = c .before .before in rw (slot (call .before .before .before)) (call .read-file .ensures)
 
 pub read-step-spec : {M : Type 1} → statement M
 read-step-spec =
     tie.close
     (tie.spec
-    (λ c κs. search needs)
+    (λ c κs. long _ (c .before .before .before .pre))
     (λ c. search needs)
     (λ c. search needs)
-    (λ c. search needs)
-    (λ c. reached c .1)
-    (λ c. reached (c .before) .1)
-    (λ c. reached (c .before) .2)
-    read-runs-requires
+    read-file-requires
     returns
     (λ c. search needs)
     returns-2)

@@ -18,8 +18,7 @@
 //! | Part | Form | Meaning |
 //! |---|---|---|
 //! | request | one byte | which it is, see below |
-//! | first | number | handle, size, slot, directory or header |
-//! | second | number | offset |
+//! | number | number | size, offset, slot, directory or header |
 //! | name | bytes | name given to the request |
 //! | buffer | bytes | buffer as it is before the request |
 //! | image | bytes | image as it is before the request |
@@ -36,18 +35,17 @@
 //! |---|---|---|---|---|
 //! | 1 | TFS check | | | - |
 //! | 2 | TFS format | name | | image |
-//! | 3 | TFS open | name | inode number | - |
-//! | 4 | TFS create | first = size, name | inode number | image |
-//! | 5 | TFS remove | name | | image |
-//! | 6 | TFS read | first = handle, second = offset, buffer | count | buffer |
-//! | 7 | TFS write | first = handle, second = offset, buffer | count | image |
-//! | 8 | TFS list | first = slot | 0 for a free slot; else 1, inode number, size, and text = name | - |
-//! | 9 | TFS free bytes | | free bytes | - |
+//! | 3 | TFS create | number = size, name | inode number | image |
+//! | 4 | TFS remove | name | | image |
+//! | 5 | TFS read | number = offset, name, buffer | count | buffer |
+//! | 6 | TFS write | number = offset, name, buffer | count | image |
+//! | 7 | TFS list | number = slot | 0 for a free slot; else 1, inode number, size, and text = name | - |
+//! | 8 | TFS free bytes | | free bytes | - |
 //! | 17 | romfs check | | | - |
-//! | 18 | romfs find | first = directory, name | offset of the header | - |
-//! | 19 | romfs entry | first = header | type, executable (0 or 1), spec.info, size, next, name length | - |
-//! | 20 | romfs content length | first = header | length | - |
-//! | 21 | romfs content | first = header | length, and text = content; both 0 and empty where it is refused, never a refusal | - |
+//! | 18 | romfs find | number = directory, name | offset of the header | - |
+//! | 19 | romfs entry | number = header | type, executable (0 or 1), spec.info, size, next, name length | - |
+//! | 20 | romfs content length | number = header | length | - |
+//! | 21 | romfs content | number = header | length, and text = content; both 0 and empty where it is refused, never a refusal | - |
 
 #![forbid(unsafe_code)]
 
@@ -126,8 +124,7 @@ fn put_case(out: &mut Vec<u8>, case: &Case) {
         answer,
     } = case;
     out.push(*request as u8);
-    put_number(out, arguments.first);
-    put_number(out, arguments.second);
+    put_number(out, arguments.number);
     put_bytes(out, &arguments.name);
     put_bytes(out, &arguments.buffer);
     put_bytes(out, image);
@@ -158,15 +155,19 @@ mod tests {
     fn a_case_has_the_written_form() {
         use reference::request::{Arguments, Request};
         let arguments = Arguments {
-            first: 7,
+            number: 9,
             name: b"n".to_vec(),
-            ..Arguments::default()
+            buffer: vec![0xCD, 0xEF],
         };
-        let packed = pack(&[Case::new(Request::TfsList, arguments, &[0xAB])]);
-        let mut expected = vec![0, 0, 0, 1, 8, 0, 0, 0, 7, 0, 0, 0, 0];
-        expected.extend([0, 0, 0, 1, b'n', 0, 0, 0, 0, 0, 0, 0, 1, 0xAB]);
+        let packed = pack(&[Case::new(Request::TfsRead, arguments, &[0xAB])]);
+        let mut expected = vec![0, 0, 0, 1, 5, 0, 0, 0, 9, 0, 0, 0, 1, b'n'];
+        expected.extend([0, 0, 0, 2, 0xCD, 0xEF, 0, 0, 0, 1, 0xAB]);
         expected.extend([0, 0, 0, 1, 0, 0, 0, 0, 0, 0, 0, 0, 0, 0, 0, 0]);
-        let hash = (0xCBF2_9CE4_8422_2325u64 ^ 0xAB).wrapping_mul(0x0100_0000_01B3);
+        let hash = [0xAB, 0xCD, 0xEF]
+            .iter()
+            .fold(0xCBF2_9CE4_8422_2325u64, |hash, byte| {
+                (hash ^ byte).wrapping_mul(0x0100_0000_01B3)
+            });
         expected.extend(hash.to_be_bytes());
         assert_eq!(packed, expected);
     }

@@ -27,16 +27,16 @@ pub fn romfs_arguments(
     if request == Request::RomFind {
         offsets.push(0);
     }
-    let first = match random.choose(&offsets) {
+    let number = match random.choose(&offsets) {
         Some(at) if random.below(5) > 0 => at,
         _ => wrong_offset(random, made),
     };
     let name = match request {
-        Request::RomFind => name(random, made, image, first),
+        Request::RomFind => name(random, made, image, number),
         _ => Vec::new(),
     };
     Arguments {
-        first,
+        number,
         name,
         ..Arguments::default()
     }

@@ -7,17 +7,20 @@ use super::case::Case;
 use super::drawn::Drawn;
 use super::tfs_arguments::{size, tfs_arguments};
 use crate::tfs::{
-    any_volume, damage_volume, damage_volume_twice, scramble_volume, volume, File, Shape, Volume,
+    any_volume, change_case, damage_volume, damage_volume_twice, scramble_volume, volume, File,
+    Shape, Volume,
 };
 use crate::Random;
 
-const OTHERS: [Request; 8] = [
+const OTHERS: [Request; 10] = [
     Request::TfsCreate,
     Request::TfsRead,
     Request::TfsWrite,
     Request::TfsRemove,
+    Request::TfsCreate,
+    Request::TfsRead,
     Request::TfsList,
-    Request::TfsOpen,
+    Request::TfsWrite,
     Request::TfsFormat,
     Request::TfsFree,
 ];
@@ -113,31 +116,29 @@ fn damaged(random: &mut Random, made: &Volume) -> Option<Vec<u8>> {
 fn crowd(drawn: &mut Drawn, made: &Volume) {
     let size = size(&mut drawn.random, made);
     let name = drawn.random.name(9);
-    add(drawn, Request::TfsCreate, size, 0, &name, &made.image);
+    add(drawn, Request::TfsCreate, size, &name, &made.image);
 }
 
-fn add(drawn: &mut Drawn, request: Request, first: u32, second: u32, name: &[u8], image: &[u8]) {
-    let uses_buffer = matches!(request, Request::TfsRead | Request::TfsWrite);
-    let buffer = drawn.random.bytes(if uses_buffer { 40 } else { 0 });
-    let name = name.to_vec();
+fn add(drawn: &mut Drawn, request: Request, number: u32, name: &[u8], image: &[u8]) {
     let arguments = Arguments {
-        first,
-        second,
-        name,
-        buffer,
+        number,
+        name: name.to_vec(),
+        buffer: Vec::new(),
     };
     drawn.add(request, arguments, image);
 }
 
 /// Adds a case for every answer that every request can give on its own.
 fn one_of_each(drawn: &mut Drawn) {
-    let (made, file) = volume_with_content(&mut drawn.random);
+    let (made, file, gone) = volume_with_past(&mut drawn.random);
     let image = &made.image;
     drawn.add_plain(Request::TfsCheck, image);
     names(drawn, &file, image);
-    transfers(drawn, &file, image);
+    for name in names_around(&file, &gone) {
+        transfers(drawn, &name, file.size, image);
+    }
     for slot in [file.slot as u32, SLOTS as u32] {
-        add(drawn, Request::TfsList, slot, 0, b"", image);
+        add(drawn, Request::TfsList, slot, b"", image);
     }
     drawn.add_plain(Request::TfsFree, image);
     drawn.add_plain(Request::TfsFormat, &image[..3 * BLOCK_SIZE - 1]);
@@ -147,13 +148,19 @@ fn one_of_each(drawn: &mut Drawn) {
     faults(drawn, &made);
 }
 
-/// A small volume, and a file of it that has a content block.
-fn volume_with_content(random: &mut Random) -> (Volume, File) {
+/// A small volume, a file of it that has content and a name of some letters, and one that is gone.
+fn volume_with_past(random: &mut Random) -> (Volume, File, File) {
     loop {
-        let made = volume(random, Shape::Scattered, 9);
-        if let Some(file) = made.files.iter().find(|file| file.size > 0) {
-            let file = file.clone();
-            return (made, file);
+        let made = volume(random, Shape::Lived, 12);
+        let worded = |file: &&File| {
+            let letters = file.name.iter().all(u8::is_ascii_alphabetic);
+            letters && (3..15).contains(&file.name.len()) && file.size > 0
+        };
+        let stands = |name: &[u8]| made.files.iter().any(|file| file.name == name);
+        let file = made.files.iter().find(worded).cloned();
+        let gone = made.gone.iter().find(|file| !stands(&file.name)).cloned();
+        if let (Some(file), Some(gone)) = (file, gone) {
+            return (made, file, gone);
         }
     }
 }
@@ -162,21 +169,48 @@ fn volume_with_content(random: &mut Random) -> (Volume, File) {
 fn names(drawn: &mut Drawn, file: &File, image: &[u8]) {
     let names: [&[u8]; 4] = [&file.name, b"some new name", b"", b"sixteen letters."];
     for name in names {
-        for request in [Request::TfsOpen, Request::TfsRemove, Request::TfsFormat] {
-            add(drawn, request, 0, 0, name, image);
+        for request in [Request::TfsRemove, Request::TfsFormat] {
+            add(drawn, request, 0, name, image);
         }
         for size in [0, LARGEST_FILE, LARGEST_FILE + 1] {
-            add(drawn, Request::TfsCreate, size, 0, name, image);
+            add(drawn, Request::TfsCreate, size, name, image);
         }
     }
 }
 
-/// Adds reads and writes at the ends of a file, with its handle and with one that is none.
-fn transfers(drawn: &mut Drawn, file: &File, image: &[u8]) {
+/// The name of a file and that of a gone one, four that differ little, and five that are none.
+fn names_around(file: &File, gone: &File) -> Vec<Vec<u8>> {
+    let name = &file.name[..];
+    let shorter = &name[..name.len() - 1];
+    let mut other_case = name.to_vec();
+    change_case(&mut other_case);
+    let mut padded = name.to_vec();
+    padded.resize(16, 0);
+    vec![
+        name.to_vec(),
+        gone.name.clone(),
+        shorter.to_vec(),
+        [name, b"s"].concat(),
+        [shorter, b"?"].concat(),
+        other_case,
+        Vec::new(),
+        [name, b"sixteen letters."].concat()[..16].to_vec(),
+        [name, b"\0"].concat(),
+        [&name[..1], b"\0", &name[2..]].concat(),
+        padded,
+    ]
+}
+
+/// Adds reads and writes at the ends of a file of some size, with buffers that may be empty.
+fn transfers(drawn: &mut Drawn, name: &[u8], size: u32, image: &[u8]) {
     for request in [Request::TfsRead, Request::TfsWrite] {
-        for offset in [0, file.size, file.size + 1] {
-            add(drawn, request, file.inode, offset, b"", image);
-            add(drawn, request, file.blocks[0], offset, b"", image);
+        for (offset, length) in [(0, 40), (0, 0), (size, 40), (size + 1, 0), (u32::MAX, 40)] {
+            let arguments = Arguments {
+                number: offset,
+                name: name.to_vec(),
+                buffer: drawn.random.bytes(length),
+            };
+            drawn.add(request, arguments, image);
         }
     }
 }

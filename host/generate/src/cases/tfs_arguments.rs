@@ -3,68 +3,57 @@
 use reference::request::{Arguments, Request};
 use reference::tfs::{BLOCK_SIZE, LARGEST_FILE, SLOTS};
 
-use crate::tfs::{File, Volume};
+use crate::tfs::{not_allowed, similar, File, Volume};
 use crate::Random;
 
 /// Draws arguments for a request on a volume, mostly good ones.
 pub fn tfs_arguments(random: &mut Random, made: &Volume, request: Request) -> Arguments {
     match request {
-        Request::TfsCreate => Arguments {
-            first: size(random, made),
-            name: name(random, made, 6),
-            ..Arguments::default()
-        },
-        Request::TfsOpen | Request::TfsRemove => Arguments {
-            name: name(random, made, 2),
-            ..Arguments::default()
-        },
-        Request::TfsFormat => Arguments {
-            name: name(random, made, 4),
-            ..Arguments::default()
-        },
+        Request::TfsCreate => {
+            let file = any_file(random, made, 2);
+            Arguments {
+                number: size(random, made),
+                name: name(random, file, 6),
+                ..Arguments::default()
+            }
+        }
+        Request::TfsRemove | Request::TfsFormat => {
+            let file = any_file(random, made, 6);
+            Arguments {
+                name: name(random, file, 1),
+                ..Arguments::default()
+            }
+        }
         Request::TfsRead | Request::TfsWrite => transfer(random, made),
         Request::TfsList => Arguments {
-            first: slot(random, made),
+            number: slot(random, made),
             ..Arguments::default()
         },
         _ => Arguments::default(),
     }
 }
 
-fn any_file<'a>(random: &mut Random, made: &'a Volume) -> Option<&'a File> {
-    let files: Vec<&File> = made.files.iter().collect();
-    random.choose(&files)
+/// A file that stands, but one that is gone once in `times`, and where no other is left.
+fn any_file<'a>(random: &mut Random, made: &'a Volume, times: usize) -> Option<&'a File> {
+    let past = random.one_in(times) || made.files.is_empty();
+    let files = match past && !made.gone.is_empty() {
+        true => &made.gone,
+        false => &made.files,
+    };
+    files.get(random.below(files.len().max(1)))
 }
 
-/// A name that mostly stands if `new` is low, and mostly does not if it is high.
-fn name(random: &mut Random, made: &Volume, new: usize) -> Vec<u8> {
+/// The name of a file, mostly; or a new one, more often if `new` is high; or one near to it.
+fn name(random: &mut Random, file: Option<&File>, new: usize) -> Vec<u8> {
     let length = random.between(1, 15);
     let fresh = random.name(length);
-    let standing = any_file(random, made).map_or(fresh.clone(), |file| file.name.clone());
-    if random.below(10) < 7 {
-        return if random.below(8) < new {
-            fresh
-        } else {
-            standing
-        };
+    let known = file.map_or(&fresh, |file| &file.name);
+    match random.below(20) {
+        0..=15 if random.below(8) < new => fresh,
+        0..=15 => known.clone(),
+        16..=17 => similar(random, known),
+        _ => not_allowed(random, known),
     }
-    let mut name = standing;
-    match random.below(8) {
-        0 => name.clear(),
-        1 => {
-            name.pop();
-        }
-        2 => name.push(random.nonzero()),
-        3 => name.push(0),
-        4 => name.insert(0, 0),
-        5 => name = random.name(15),
-        6 => name.resize(16, b'A'),
-        _ => {
-            let length = random.pick(&[16, 17, 32, 300]);
-            name = random.name(length);
-        }
-    }
-    name
 }
 
 /// A size of a new file, mostly one that there is room for.
@@ -90,7 +79,7 @@ pub(super) fn size(random: &mut Random, made: &Volume) -> u32 {
 /// A slot, mostly a used one, or a number that may be none.
 fn slot(random: &mut Random, made: &Volume) -> u32 {
     let any = random.below(SLOTS) as u32;
-    let used = any_file(random, made).map_or(any, |file| file.slot as u32);
+    let used = any_file(random, made, 6).map_or(any, |file| file.slot as u32);
     random.pick(&[
         used,
         used,
@@ -106,40 +95,16 @@ fn slot(random: &mut Random, made: &Volume) -> u32 {
     ])
 }
 
-/// Arguments of a read or a write.
+/// Arguments of a read or a write; the offset is near the end that the file has, or had.
 fn transfer(random: &mut Random, made: &Volume) -> Arguments {
-    let any = random.below(made.blocks) as u32;
-    let file = any_file(random, made);
+    let file = any_file(random, made, 6);
     let size = file.map_or(0, |file| file.size);
-    let first = handle(random, made, file, any);
-    let second = offset(random, size);
-    let length = buffer_length(random, size.saturating_sub(second) as usize);
+    let number = offset(random, size);
+    let length = buffer_length(random, size.saturating_sub(number) as usize);
     Arguments {
-        first,
-        second,
+        number,
+        name: name(random, file, 0),
         buffer: random.bytes(length),
-        ..Arguments::default()
-    }
-}
-
-/// The handle of a file, mostly, or one of its content blocks, or a number that may be neither.
-fn handle(random: &mut Random, made: &Volume, file: Option<&File>, any: u32) -> u32 {
-    let count = made.blocks as u32;
-    match file {
-        Some(file) if random.below(8) < 6 => file.inode,
-        Some(file) if random.one_in(2) => random.choose(&file.blocks).unwrap_or(any),
-        _ => random.pick(&[
-            0,
-            1,
-            2,
-            3,
-            any,
-            any,
-            count - 1,
-            count,
-            0x0001_0003,
-            u32::MAX,
-        ]),
     }
 }
 

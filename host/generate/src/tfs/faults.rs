@@ -3,7 +3,8 @@
 use reference::tfs::{BLOCK_SIZE, LARGEST_FILE, SLOTS};
 use reference::Refusal;
 
-use super::volume::{map_byte, File, Volume};
+use super::made::{File, Volume};
+use super::volume::map_byte;
 use crate::Random;
 
 /// Breaks one of the rules 1 to 7 and gives the image with the answer that a check owes it.

@@ -1,34 +1,12 @@
 //! Consistent TFS volumes.
 
-use reference::tfs::{self, BLOCK_SIZE, LARGEST_FILE, MAGIC, MOST_BLOCKS, SLOTS};
+use reference::tfs::{BLOCK_SIZE, LARGEST_FILE, MAGIC, MOST_BLOCKS, SLOTS};
 
+use super::lived::lived;
+use super::made::{File, Volume};
+use super::names::similar;
+use super::sizes::some_size;
 use crate::Random;
-
-/// A file of a generated volume.
-#[derive(Clone, Debug, PartialEq, Eq)]
-pub struct File {
-    /// The slot of the directory that holds the file.
-    pub slot: usize,
-    /// The name without the zeros behind it.
-    pub name: Vec<u8>,
-    /// The inode number.
-    pub inode: u32,
-    /// The size in bytes.
-    pub size: u32,
-    /// The numbers of the content blocks in order.
-    pub blocks: Vec<u32>,
-}
-
-/// A generated volume and what stands in it.
-#[derive(Clone, Debug)]
-pub struct Volume {
-    /// The bytes of the image.
-    pub image: Vec<u8>,
-    /// The number of blocks that count.
-    pub blocks: usize,
-    /// The files in the order of their slots.
-    pub files: Vec<File>,
-}
 
 /// What a volume is to be filled with.
 #[derive(Clone, Copy, Debug, PartialEq, Eq)]
@@ -37,7 +15,7 @@ pub enum Shape {
     Empty,
     /// Some files in scattered slots and blocks, with room left.
     Scattered,
-    /// Files in scattered blocks until no block is left.
+    /// Files in scattered blocks until hardly a block is left, or the last has the largest size.
     Full,
     /// A file in every slot, as far as there are blocks.
     Crowded,
@@ -51,7 +29,8 @@ pub enum Shape {
 pub fn volume(random: &mut Random, shape: Shape, blocks: usize) -> Volume {
     let blocks = blocks.clamp(3, MOST_BLOCKS);
     if shape == Shape::Lived {
-        return lived(random, blocks);
+        let noise = canvas(random, blocks);
+        return lived(random, noise, blocks);
     }
     let files = plan(random, shape, blocks);
     let mut image = canvas(random, blocks);
@@ -60,6 +39,7 @@ pub fn volume(random: &mut Random, shape: Shape, blocks: usize) -> Volume {
         image,
         blocks,
         files,
+        gone: Vec::new(),
     }
 }
 
@@ -166,19 +146,7 @@ fn share(shape: Shape, free: usize, later: usize) -> usize {
     (blocks * BLOCK_SIZE).min(LARGEST_FILE as usize)
 }
 
-/// A size up to `most`, often one at the edge of a block.
-fn some_size(random: &mut Random, most: usize) -> usize {
-    let size = match random.below(8) {
-        0 => 0,
-        1 => BLOCK_SIZE,
-        2 => BLOCK_SIZE * random.below(most / BLOCK_SIZE + 1),
-        3 => random.pick(&[1, 511, 513, 1000, 1024, 1025]),
-        4 => random.below(most + 1),
-        _ => random.below(most.min(3 * BLOCK_SIZE) + 1),
-    };
-    size.min(most)
-}
-
+/// A name that no other file has, at times one similar to that of another.
 fn fresh_name(random: &mut Random, files: &[File]) -> Vec<u8> {
     loop {
         let length = if random.one_in(3) {
@@ -186,7 +154,10 @@ fn fresh_name(random: &mut Random, files: &[File]) -> Vec<u8> {
         } else {
             random.between(1, 15)
         };
-        let name = random.name(length);
+        let name = match files.last() {
+            Some(other) if random.one_in(4) => similar(random, &other.name),
+            _ => random.name(length),
+        };
         if files.iter().all(|file| file.name != name) {
             return name;
         }
@@ -230,66 +201,4 @@ fn draw(random: &mut Random, image: &mut [u8], blocks: usize, files: &[File]) {
 /// The byte of the map that holds the bit of a block.
 pub(super) fn map_byte(block: usize) -> usize {
     4 * (block / 32) + 3 - block % 32 / 8
-}
-
-/// A volume with a history of requests.
-fn lived(random: &mut Random, blocks: usize) -> Volume {
-    let mut image = canvas(random, blocks);
-    let length = random.between(0, 15);
-    let label = random.name(length);
-    let formatted = tfs::format(&mut image, &label);
-    debug_assert_eq!(formatted, Ok(()));
-    let mut names: Vec<Vec<u8>> = Vec::new();
-    for _ in 0..random.between(2, 40) {
-        if names.is_empty() || random.below(5) < 2 {
-            let length = random.between(1, 15);
-            let name = random.name(length);
-            let size = some_size(random, (blocks - 3) * BLOCK_SIZE / 2);
-            if tfs::create(&mut image, &name, size as u32).is_ok() {
-                names.push(name);
-            }
-        } else if random.one_in(2) {
-            let gone = names.swap_remove(random.below(names.len()));
-            let removed = tfs::remove(&mut image, &gone);
-            debug_assert_eq!(removed, Ok(()));
-        } else {
-            let name = &names[random.below(names.len())];
-            let length = random.below(1500);
-            let bytes = random.bytes(length);
-            let offset = random.below(1500) as u32;
-            if let Ok(handle) = tfs::open(&image, name) {
-                let _ = tfs::write(&mut image, handle, offset, &bytes);
-            }
-        }
-    }
-    random.fill(&mut image[2 * BLOCK_SIZE + 20 * SLOTS..3 * BLOCK_SIZE]);
-    let files = survey(&image);
-    Volume {
-        image,
-        blocks,
-        files,
-    }
-}
-
-/// The files of a consistent image.
-fn survey(image: &[u8]) -> Vec<File> {
-    let number =
-        |at: usize| u32::from_be_bytes([image[at], image[at + 1], image[at + 2], image[at + 3]]);
-    (0..SLOTS)
-        .filter_map(|slot| match tfs::list(image, slot as u32) {
-            Ok(tfs::Listing::Used { name, inode, size }) => {
-                let first = inode as usize * BLOCK_SIZE + 4;
-                let count = (size as usize).div_ceil(BLOCK_SIZE);
-                let blocks = (0..count).map(|index| number(first + 4 * index)).collect();
-                Some(File {
-                    slot,
-                    name: name.to_vec(),
-                    inode,
-                    size,
-                    blocks,
-                })
-            }
-            _ => None,
-        })
-        .collect()
 }

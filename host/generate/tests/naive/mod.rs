@@ -47,7 +47,7 @@ fn slot_fault(image: &[u8], n: usize) -> Fault {
     for s in 0..25 {
         let free = is_free(slot(image, s));
         let used = is_used(slot(image, s), n);
-        if !(free || used) || (!free && (0..s).any(|lower| name(lower) == name(s))) {
+        if !free && (!used || (0..s).any(|lower| name(lower) == name(s))) {
             return Some((4, s as u32));
         }
     }

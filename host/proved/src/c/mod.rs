@@ -13,6 +13,6 @@ pub struct Answer {
     pub refusal: u32,
     /// The slot, block or header at fault.
     pub place: u32,
-    /// A handle, a count, free bytes, or the offset of a found header.
+    /// An inode number, a count, free bytes, or the offset of a found header.
     pub value: u32,
 }

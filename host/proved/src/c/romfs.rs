@@ -40,7 +40,13 @@ pub struct Part {
 
 extern "C" {
     fn romfs_check(image: *const u8, image_length: usize) -> Answer;
-    fn romfs_find(image: *const u8, image_length: usize, directory: u32, name: *const u8, name_length: usize) -> Answer;
+    fn romfs_find(
+        image: *const u8,
+        image_length: usize,
+        directory: u32,
+        name: *const u8,
+        name_length: usize,
+    ) -> Answer;
     fn romfs_entry(image: *const u8, image_length: usize, at: u32) -> Header;
     fn romfs_content(image: *const u8, image_length: usize, at: u32) -> Part;
 }
@@ -52,7 +58,15 @@ pub fn check(image: &[u8]) -> Answer {
 
 /// The header of a name in a directory's list; 0 is the root.
 pub fn find(image: &[u8], directory: u32, name: &[u8]) -> Answer {
-    unsafe { romfs_find(image.as_ptr(), image.len(), directory, name.as_ptr(), name.len()) }
+    unsafe {
+        romfs_find(
+            image.as_ptr(),
+            image.len(),
+            directory,
+            name.as_ptr(),
+            name.len(),
+        )
+    }
 }
 
 /// The entry at a header.

@@ -12,7 +12,7 @@ pub struct Slot {
     pub place: u32,
     /// 1 for a file.
     pub used: u32,
-    /// The file's handle.
+    /// The file's inode number.
     pub inode: u32,
     /// The file's size in bytes.
     pub size: u32,
@@ -23,13 +23,44 @@ pub struct Slot {
 }
 
 extern "C" {
-    fn tfs_format(image: *mut u8, image_length: usize, label: *const u8, label_length: usize) -> Answer;
+    fn tfs_format(
+        image: *mut u8,
+        image_length: usize,
+        label: *const u8,
+        label_length: usize,
+    ) -> Answer;
     fn tfs_check(image: *const u8, image_length: usize) -> Answer;
-    fn tfs_open(image: *const u8, image_length: usize, name: *const u8, name_length: usize) -> Answer;
-    fn tfs_create(image: *mut u8, image_length: usize, name: *const u8, name_length: usize, size: u32) -> Answer;
-    fn tfs_remove(image: *mut u8, image_length: usize, name: *const u8, name_length: usize) -> Answer;
-    fn tfs_read(image: *const u8, image_length: usize, handle: u32, offset: u32, buffer: *mut u8, buffer_length: usize) -> Answer;
-    fn tfs_write(image: *mut u8, image_length: usize, handle: u32, offset: u32, buffer: *const u8, buffer_length: usize) -> Answer;
+    fn tfs_create(
+        image: *mut u8,
+        image_length: usize,
+        name: *const u8,
+        name_length: usize,
+        size: u32,
+    ) -> Answer;
+    fn tfs_remove(
+        image: *mut u8,
+        image_length: usize,
+        name: *const u8,
+        name_length: usize,
+    ) -> Answer;
+    fn tfs_read(
+        image: *const u8,
+        image_length: usize,
+        name: *const u8,
+        name_length: usize,
+        offset: u32,
+        buffer: *mut u8,
+        buffer_length: usize,
+    ) -> Answer;
+    fn tfs_write(
+        image: *mut u8,
+        image_length: usize,
+        name: *const u8,
+        name_length: usize,
+        offset: u32,
+        buffer: *const u8,
+        buffer_length: usize,
+    ) -> Answer;
     fn tfs_list(image: *const u8, image_length: usize, slot: u32) -> Slot;
     fn tfs_free_bytes(image: *const u8, image_length: usize) -> Answer;
 }
@@ -44,14 +75,17 @@ pub fn check(image: &[u8]) -> Answer {
     unsafe { tfs_check(image.as_ptr(), image.len()) }
 }
 
-/// The handle of a file.
-pub fn open(image: &[u8], name: &[u8]) -> Answer {
-    unsafe { tfs_open(image.as_ptr(), image.len(), name.as_ptr(), name.len()) }
-}
-
-/// Creates a file of zeros; its handle.
+/// Creates a file of zeros; its inode number.
 pub fn create(image: &mut [u8], name: &[u8], size: u32) -> Answer {
-    unsafe { tfs_create(image.as_mut_ptr(), image.len(), name.as_ptr(), name.len(), size) }
+    unsafe {
+        tfs_create(
+            image.as_mut_ptr(),
+            image.len(),
+            name.as_ptr(),
+            name.len(),
+            size,
+        )
+    }
 }
 
 /// Removes a file.
@@ -59,14 +93,34 @@ pub fn remove(image: &mut [u8], name: &[u8]) -> Answer {
     unsafe { tfs_remove(image.as_mut_ptr(), image.len(), name.as_ptr(), name.len()) }
 }
 
-/// Reads into the buffer; the count.
-pub fn read(image: &[u8], handle: u32, offset: u32, buffer: &mut [u8]) -> Answer {
-    unsafe { tfs_read(image.as_ptr(), image.len(), handle, offset, buffer.as_mut_ptr(), buffer.len()) }
+/// Reads the file of a name into the buffer; the count.
+pub fn read(image: &[u8], name: &[u8], offset: u32, buffer: &mut [u8]) -> Answer {
+    unsafe {
+        tfs_read(
+            image.as_ptr(),
+            image.len(),
+            name.as_ptr(),
+            name.len(),
+            offset,
+            buffer.as_mut_ptr(),
+            buffer.len(),
+        )
+    }
 }
 
-/// Writes the buffer into the file; the count.
-pub fn write(image: &mut [u8], handle: u32, offset: u32, buffer: &[u8]) -> Answer {
-    unsafe { tfs_write(image.as_mut_ptr(), image.len(), handle, offset, buffer.as_ptr(), buffer.len()) }
+/// Writes the buffer into the file of a name; the count.
+pub fn write(image: &mut [u8], name: &[u8], offset: u32, buffer: &[u8]) -> Answer {
+    unsafe {
+        tfs_write(
+            image.as_mut_ptr(),
+            image.len(),
+            name.as_ptr(),
+            name.len(),
+            offset,
+            buffer.as_ptr(),
+            buffer.len(),
+        )
+    }
 }
 
 /// What stands in a slot.

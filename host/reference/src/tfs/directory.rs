@@ -16,7 +16,7 @@ pub enum Listing<'a> {
     Used {
         /// The name without the zeros behind it.
         name: &'a [u8],
-        /// The inode number, which is also the handle.
+        /// The inode number.
         inode: u32,
         /// The size of the file in bytes.
         size: u32,
@@ -36,11 +36,6 @@ pub fn format(image: &mut [u8], name: &[u8]) -> Result<(), Refusal> {
     label[4..20].copy_from_slice(name.field());
     set_word(map, 0, 0b111);
     Ok(())
-}
-
-/// Gives the inode number of a standing name.
-pub fn open(image: &[u8], name: &[u8]) -> Result<u32, Refusal> {
-    lookup(image, name).map(|(_, inode)| inode)
 }
 
 /// Makes a file of zeros and gives its inode number.
@@ -79,7 +74,7 @@ pub fn create(image: &mut [u8], name: &[u8], size: u32) -> Result<u32, Refusal> 
 
 /// Takes a file out of the directory and gives its blocks back.
 pub fn remove(image: &mut [u8], name: &[u8]) -> Result<(), Refusal> {
-    let (slot, inode) = lookup(image, name)?;
+    let (slot, inode) = Volume::checked(image)?.lookup(name)?;
     let blocks = blocks_mut(image);
     let record = blocks[inode as usize];
     let map = &mut blocks[MAP];
@@ -108,10 +103,4 @@ pub fn list(image: &[u8], slot: u32) -> Result<Listing<'_>, Refusal> {
 /// Gives the number of bytes in free blocks.
 pub fn free_bytes(image: &[u8]) -> Result<u32, Refusal> {
     Ok(BLOCK_SIZE as u32 * Volume::checked(image)?.free_count())
-}
-
-fn lookup(image: &[u8], name: &[u8]) -> Result<(usize, u32), Refusal> {
-    let volume = Volume::checked(image)?;
-    let name = Name::of_file(name).ok_or(Refusal::plain(8))?;
-    volume.find(&name).ok_or(Refusal::plain(13))
 }

@@ -8,7 +8,7 @@ mod layout;
 mod transfer;
 mod volume;
 
-pub use directory::{create, format, free_bytes, list, open, remove, Listing};
+pub use directory::{create, format, free_bytes, list, remove, Listing};
 pub use layout::{BLOCK_SIZE, LARGEST_FILE, MAGIC, MOST_BLOCKS, SLOTS};
 pub use transfer::{read, write};
 pub use volume::check;

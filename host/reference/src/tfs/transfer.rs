@@ -6,9 +6,9 @@ use super::layout::{file_size, word, Block, BLOCK_SIZE};
 use super::volume::Volume;
 use crate::Refusal;
 
-/// Copies content from an offset on into a buffer and gives the count of bytes.
-pub fn read(image: &[u8], handle: u32, offset: u32, buffer: &mut [u8]) -> Result<u32, Refusal> {
-    let runs = Runs::plan(image, handle, offset, buffer.len())?;
+/// Copies content of a file from an offset on into a buffer and gives the count of bytes.
+pub fn read(image: &[u8], name: &[u8], offset: u32, buffer: &mut [u8]) -> Result<u32, Refusal> {
+    let runs = Runs::plan(image, name, offset, buffer.len())?;
     let count = runs.left;
     let mut target = &mut buffer[..count];
     for run in runs {
@@ -19,9 +19,9 @@ pub fn read(image: &[u8], handle: u32, offset: u32, buffer: &mut [u8]) -> Result
     Ok(count as u32)
 }
 
-/// Copies a buffer over the content from an offset on and gives the count of bytes.
-pub fn write(image: &mut [u8], handle: u32, offset: u32, buffer: &[u8]) -> Result<u32, Refusal> {
-    let runs = Runs::plan(image, handle, offset, buffer.len())?;
+/// Copies a buffer over the content of a file from an offset on and gives the count of bytes.
+pub fn write(image: &mut [u8], name: &[u8], offset: u32, buffer: &[u8]) -> Result<u32, Refusal> {
+    let runs = Runs::plan(image, name, offset, buffer.len())?;
     let count = runs.left;
     let mut source = &buffer[..count];
     for run in runs {
@@ -40,9 +40,10 @@ struct Runs {
 }
 
 impl Runs {
-    fn plan(image: &[u8], handle: u32, offset: u32, room: usize) -> Result<Self, Refusal> {
+    fn plan(image: &[u8], name: &[u8], offset: u32, room: usize) -> Result<Self, Refusal> {
         let volume = Volume::checked(image)?;
-        let inode = volume.file(handle).ok_or(Refusal::plain(14))?;
+        let (_, number) = volume.lookup(name)?;
+        let inode = volume.inode(number);
         let behind = file_size(inode)
             .checked_sub(offset)
             .ok_or(Refusal::plain(15))?;

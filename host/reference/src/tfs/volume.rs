@@ -42,12 +42,10 @@ impl<'a> Volume<'a> {
             })
     }
 
-    /// The inode that a handle means.
-    pub(super) fn file(&self, handle: u32) -> Option<&'a Block> {
-        self.slots
-            .iter()
-            .any(|slot| matches!(slot, Slot::Used { inode, .. } if *inode == handle))
-            .then(|| self.inode(handle))
+    /// The slot and inode number of a given name, or the refusal that it meets.
+    pub(super) fn lookup(&self, name: &[u8]) -> Result<(usize, u32), Refusal> {
+        let name = Name::of_file(name).ok_or(Refusal::plain(8))?;
+        self.find(&name).ok_or(Refusal::plain(13))
     }
 
     /// The block of an inode number that stands in a slot.

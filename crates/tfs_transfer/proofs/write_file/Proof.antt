@@ -1,0 +1,62 @@
+-- `write_file` meets its contract: by the case that `reach_of` gives.
+use mathlib.Core.Path.{refl, sym, ap, subst, _∙_}
+use native.Mathlib.Omega.{arith}
+use lib.ListN.{length}
+use denote.Ref.{now}
+use borrow.Author.Needs.{needs}
+use Rattle.tfs_transfer.specs.Transfer.{reachTold, Reaches, allowed, runs-ready, write-all}
+use Rattle.tfs_transfer.specs.declared.Reach.{Reach}
+use Rattle.tfs_transfer.specs.declared.Reach.the-variants.{Bytes}
+use Rattle.tfs_transfer.proofs.write_file.Statement.{statement}
+use Rattle.tfs_transfer.proofs.write_file.Tie as tie
+
+abbrev found : tie.After-known-told2 → tie.After-reach-of
+found c = c .before .before .before
+
+abbrev start : tie.After-reach-of → tie.Start
+start c = c .before .before .before .before .before
+
+abbrev Found : tie.After-reach-of → Reach → Type 0
+Found c r = Reaches (now (start c .args .image)) (start c .args .s) (start c .args .offset) (length (now (start c .args .buf))) (c .reach-of .last .1 .1 .1 .1 .0) r
+
+reached : (c : tie.After-known-told2) → Found (found c) (Bytes (c .before .moved .given .0 .0) (c .before .moved .given .0 .1 .0))
+reached c = subst (Found (found c)) (c .before .moved .given .1) (found c .reach-of .ensures .1)
+
+write-runs-requires : tie.Need-write-runs-requires
+write-runs-requires c κs =
+    let known = c .before .before .before in
+    let start = start (found known) in
+    let (inside, enough, reach, few) = runs-ready _ (start .pre .0) _ (start .pre .1) _ _ _ (reached known .0) _ (reached known .1 .content) in
+    (inside, omega arith, omega arith, few)
+
+returns : tie.Need-returns
+returns c =
+    let found = c .before .before .before in
+    let e = c .before .n .given .1 in
+    rw (sym (found .reach-of .ensures .0) ∙ ap reachTold e) (refl, refl, subst (Found found) e (found .reach-of .ensures .1))
+
+returns-2 : tie.Need-returns-2
+returns-2 c =
+    let run = c .before .before in
+    let known = run .before .before .before .before in
+    let start = start (found known) in
+    let r = reached known in
+    rw (allowed (r .0))
+    (refl, write-all _ (start .pre .0) _ (start .pre .1) _ _ _ (r .0) _ (r .1 .content) (now (start .args .buf)) (run .write-runs .last .0) refl (run .write-runs .ensures), tt)
+
+pub write-file-spec : {M : Type 1} → statement M
+write-file-spec =
+    tie.close
+    (tie.spec
+    (λ c κs. search needs)
+    (λ c. search needs)
+    (λ c. search needs)
+    (λ c. search needs)
+    (λ c. reached (c .before) .1 .some)
+    (λ c. reached (c .before .before) .1 .some)
+    (λ c. reached (c .before .before) .1 .fits)
+    write-runs-requires
+    (λ c. search needs)
+    returns
+    (λ c. search needs)
+    returns-2)

@@ -1,0 +1,20 @@
+//! A program sought out as a wrong one by the comparison with the reference.
+
+use compare::sides::reference;
+use compare::{options, run, Found, Limits, Side, Tally};
+
+/// Compares a program with the reference.
+pub fn compared(words: &str, side: Side) -> (Tally, Option<Found>) {
+    let words = words.split(' ').map(str::to_owned);
+    let limits: Limits = options::parse(words).expect("options");
+    run(limits, [side, reference])
+}
+
+/// Finds a wrong program, and finds it again by the number of the image alone.
+pub fn found(side: Side) -> Found {
+    let (_, found) = compared("--seed 1 --cases 40000", side);
+    let found = found.expect("the wrong program is found");
+    let (_, again) = compared(&format!("--seed 1 --image {}", found.image), side);
+    assert_eq!(again.expect("found again").request, found.request);
+    found
+}

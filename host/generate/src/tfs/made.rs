@@ -1,0 +1,69 @@
+//! What stands in a volume.
+
+use reference::tfs::{BLOCK_SIZE, SLOTS};
+
+/// A file of a generated volume.
+#[derive(Clone, Debug, PartialEq, Eq)]
+pub struct File {
+    /// The slot of the directory that holds the file.
+    pub slot: usize,
+    /// The name without the zeros behind it.
+    pub name: Vec<u8>,
+    /// The inode number.
+    pub inode: u32,
+    /// The size in bytes.
+    pub size: u32,
+    /// The numbers of the content blocks in order.
+    pub blocks: Vec<u32>,
+}
+
+/// A generated volume and what stands in it.
+#[derive(Clone, Debug)]
+pub struct Volume {
+    /// The bytes of the image.
+    pub image: Vec<u8>,
+    /// The number of blocks that count.
+    pub blocks: usize,
+    /// The files in the order of their slots.
+    pub files: Vec<File>,
+    /// The files that were removed, as they were then; their names may stand again.
+    pub gone: Vec<File>,
+}
+
+impl Volume {
+    /// A volume of so many blocks without files, and as yet without an image.
+    pub(super) fn empty(blocks: usize) -> Self {
+        Self {
+            image: Vec::new(),
+            blocks,
+            files: Vec::new(),
+            gone: Vec::new(),
+        }
+    }
+
+    /// Takes note of a file that was created; the image is the one after that.
+    pub fn created(&mut self, image: &[u8], name: &[u8], inode: u32, size: u32) {
+        let used = |slot: &usize| self.files.iter().any(|file| file.slot == *slot);
+        let inode_words = image[inode as usize * BLOCK_SIZE..].as_chunks().0.iter();
+        let numbers = inode_words.skip(1).map(|word| u32::from_be_bytes(*word));
+        self.files.push(File {
+            slot: (0..SLOTS).find(|slot| !used(slot)).unwrap_or(SLOTS),
+            name: name.to_vec(),
+            inode,
+            size,
+            blocks: numbers.take((size as usize).div_ceil(BLOCK_SIZE)).collect(),
+        });
+        self.files.sort_by_key(|file| file.slot);
+    }
+
+    /// Takes note of a file that was removed.
+    pub fn removed(&mut self, name: &[u8]) {
+        let removed = self.files.extract_if(.., |file| file.name == name);
+        self.gone.extend(removed);
+    }
+
+    /// Takes note of a format.
+    pub fn formatted(&mut self) {
+        self.gone.append(&mut self.files);
+    }
+}
