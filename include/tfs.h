@@ -18,6 +18,10 @@
  * A refused request changes no byte of the image or of the buffer.
  *
  * A name is its bytes with no zero at the end: "TIMING" has length 6.
+ *
+ * In the image a name ends at its first zero. Old bytes that stand behind it,
+ * and behind the first name byte of a free slot, are ignored; they are kept
+ * until a create, a remove or a format sets their slot.
  */
 #ifndef TFS_H
 #define TFS_H
@@ -43,7 +47,8 @@ enum tfs_refusal {
     TFS_IMAGE_TOO_SHORT = 1,  /* image under 1,536 bytes */
     TFS_BAD_MAGIC = 2,        /* bytes 0 to 3 are not the magic number */
     TFS_BAD_LABEL = 3,        /* no zero in the 16 bytes of the volume's name */
-    TFS_BAD_SLOT = 4,         /* slot neither free nor well formed, or a name twice; place: slot */
+    TFS_BAD_SLOT = 4,         /* slot neither free (inode 0, first name byte 0) nor used (inode in range, a zero
+                                 in the 16 name bytes but not as the first), or a name twice; place: slot */
     TFS_BAD_INODE = 5,        /* size or block number of the slot's inode out of range, or a number past
                                  its blocks not 0; place: slot */
     TFS_BLOCK_TWICE = 6,      /* block claimed twice; place: block */
@@ -73,7 +78,7 @@ typedef struct tfs_slot {
     uint32_t inode;       /* the file's inode number, else 0 */
     uint32_t size;        /* the file's size in bytes, else 0 */
     uint32_t name_length; /* 1 to 15 for a file, else 0 */
-    uint8_t name[16];     /* the file's name, padded with zeros; else zeros */
+    uint8_t name[16];     /* the file's name up to its zero, padded with zeros; else zeros */
 } tfs_slot;
 
 /* Makes an empty volume, whatever the image held. The label may be empty.

@@ -29,7 +29,7 @@ one operation lasts long). Every request but format checks the whole volume firs
 Times less the check are differences of two measurements, and vary most from run to run.
 
 A volume of 2 MiB is full when its 25 slots are used: 25 files of 65,024 bytes have 3,200 of its 4,093 blocks. There, create and
-remove are timed as remove and create.
+remove are timed as remove and create. Leftovers, where there are any, fill the name bytes behind the first zero of every slot.
 TEXT
 
 echo
@@ -42,7 +42,7 @@ echo "## Time"
 echo
 echo "## Code size"
 echo
-echo "\`size\` of the static libraries; they need \`memcpy\` and \`memset\` and nothing else."
+echo "\`size\` of the static libraries; libtfs_c.a needs \`memcpy\` and \`memset\`, libromfs_c.a \`memset\`, and nothing else."
 echo
 echo "| library | code and constants | data | zeroed data |"
 echo "|---|---:|---:|---:|"

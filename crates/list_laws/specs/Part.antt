@@ -5,13 +5,18 @@ use Prim.Native.Nat.{ℕ, zero, suc, _+_, _-_, _<_, _≤_}
 use native.Mathlib.Omega.{arith}
 use native.Mathlib.Nat.{zero-add, suc-add}
 use mathlib.Core.List.{List, [], _∷_, _++_}
-use lib.ListN.{length, getD, take, drop, length-append, length-take, length-drop, take-append-drop, List·getD-append}
+use lib.ListN.{length, getD, take, drop, length-append, length-take, length-drop, List·getD-append}
 use lib.Seq.{length-take-le, take-at, drop-at, ext-getD, getD-take, getD-drop, getD-append-add, drop-drop, take-take, take-append-le, drop-append-le, drop-append-add, take-nil}
 use Rattle.lists.specs.Lists.{part, withPart}
 
 pub length-part : (s n : ℕ) (image : List ℕ) → s + n ≤ length image → length (part s n image) ≡ n
 unfolding part
 length-part s n image h = simp (length-take, length-drop) (omega arith)
+
+-- parts of lists of one length have one length
+pub part-long : (s n : ℕ) (a b : List ℕ) → length a ≡ length b → length (part s n a) ≡ length (part s n b)
+unfolding part
+part-long s n a b e = simp (length-take, length-drop) (omega arith)
 
 pub length-with : (s n : ℕ) (p image : List ℕ) → length p ≡ n → s + n ≤ length image → length (withPart s n p image) ≡ length image
 unfolding withPart
@@ -48,18 +53,6 @@ part-with-other s n p image t m e h d = ⊎-elim before after d
     after b =
         let k : s + (n + (t - s - n)) ≡ t = omega arith in
         rw (drop-past (take s image) _ s t ls (omega arith), drop-past p _ n (t - s) e (omega arith), drop-drop, drop-drop, k)
-
--- the same part put back
-pub with-same : (s n : ℕ) (image : List ℕ) → withPart s n (part s n image) image ≡ image
-unfolding withPart part
-with-same s n image = rw (take-append-drop n, take-append-drop)
-
--- the later of two puts in one place counts
-pub with-with : (s n : ℕ) (q p image : List ℕ) → length p ≡ n → s ≤ length image → withPart s n q (withPart s n p image) ≡ withPart s n q image
-unfolding withPart
-with-with s n q p image e h =
-    let ls : length (take s image) ≡ s = length-take-le s image h in
-    rw (take-at (take s image) _ s ls, drop-at (take s image) _ s ls, drop-at p _ n e)
 
 -- ---- byte by byte
 pub getD-part : (s n : ℕ) (image : List ℕ) (i : ℕ) → i < n → getD (part s n image) i 0 ≡ getD image (s + i) 0

@@ -48,11 +48,6 @@ unfolding sum
 sum-add f g zero = refl
 sum-add f g (suc n) = rw (sum-add f g n) (omega arith)
 
-pub sum-swap : (f : ℕ → ℕ → ℕ) (n m : ℕ) → sum (λ i. sum (f i) m) n ≡ sum (λ j. sum (λ i. f i j) n) m
-unfolding sum
-sum-swap f n zero = sum-zero n
-sum-swap f n (suc m) = sum-add (λ i. sum (f i) m) (λ i. f i m) n ∙ ap (λ (x : ℕ). x + sum (λ i. f i m) n) (sum-swap f n m)
-
 -- two functions that differ at one number only
 pub sum-drop : (f g : ℕ → ℕ) (n s : ℕ) → s < n → ((t : ℕ) → t < n → s ≢ t → g t ≡ f t) → g s ≡ 0 → sum f n ≡ sum g n + f s
 unfolding sum

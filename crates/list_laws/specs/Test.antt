@@ -1,12 +1,11 @@
 -- Tests as Booleans, and what they say.
 use mathlib.Core.Path.{_≡_, refl, sym, subst}
 use mathlib.Core.Bool.{Bool, true, false, not, cond, _&&_, _||_}
-use Prim.Native.Nat.{ℕ, zero, suc, _<_}
+use Prim.Native.Nat.{ℕ, zero, suc}
 use mathlib.Core.List.{List, [], _∷_}
-use native.Mathlib.Omega.{arith}
-use lib.ListN.{length, getD}
-use lib.Dec.{T, eqb, eqb→eq, eqb-refl, T-not, not-T}
-use Rattle.lists.specs.Lists.{sameList, allZero}
+use lib.ListN.{getD}
+use lib.Dec.{T, eqb, eqb→eq, eqb-refl, not-T}
+use Rattle.lists.specs.Lists.{sameList, zeros}
 
 -- ---- a test is true or not
 pub by-test {ℓ} : {P : Type ℓ} (b : Bool) → (T b → P) → (T (not b) → P) → P
@@ -105,15 +104,8 @@ pub same-refl : (a : List ℕ) → T (sameList a a)
 same-refl [] = tt
 same-refl (x ∷ xs) = and-of (eqb x x) (sameList xs xs) (eqb-refl x) (same-refl xs)
 
-pub same-not : (a b : List ℕ) → T (not (sameList a b)) → a ≡ b → ⊥
-same-not a b t e = T-not (sameList a b) t (rw e (same-refl b))
-
--- a list of zeros only, by its bytes
-pub zero-bytes : (l : List ℕ) → T (allZero l) → (i : ℕ) → getD l i 0 ≡ 0
-zero-bytes [] t i = refl
-zero-bytes (x ∷ xs) t zero = eqb→eq x 0 (and-l (eqb x 0) (allZero xs) t)
-zero-bytes (x ∷ xs) t (suc i) = zero-bytes xs (and-r (eqb x 0) (allZero xs) t) i
-
-pub all-zero : (l : List ℕ) → ((i : ℕ) → i < length l → getD l i 0 ≡ 0) → T (allZero l)
-all-zero [] h = tt
-all-zero (x ∷ xs) h = and-of (eqb x 0) (allZero xs) (eqb-of (h 0 (omega arith))) (all-zero xs (λ i l. h (suc i) (omega arith)))
+-- zeros, by their bytes
+pub zeros-byte : (n i : ℕ) → getD (zeros n) i 0 ≡ 0
+zeros-byte zero i = refl
+zeros-byte (suc n) zero = refl
+zeros-byte (suc n) (suc i) = zeros-byte n i

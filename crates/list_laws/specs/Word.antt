@@ -5,9 +5,8 @@ use mathlib.Core.List.{List, [], _∷_, _++_}
 use native.Mathlib.Omega.{arith}
 use lib.ListN.{length, getD}
 use lib.Seq.{getD-append-add}
-use lib.Dec.{T}
-use Rattle.lists.specs.Lists.{word, wordOf, bytes4, words, allZero}
-use Rattle.list_laws.specs.Test.{zero-bytes}
+use Rattle.lists.specs.Lists.{word, wordOf, bytes4, words, zeros}
+use Rattle.list_laws.specs.Test.{zeros-byte}
 
 pub length-words : (ns : List ℕ) → length (words ns) ≡ 4 * length ns
 length-words [] = refl
@@ -38,7 +37,6 @@ words-at (n ∷ ns) rest (suc m) h =
     ap (λ (p : ℕ). word (bytes4 n ++ (words ns ++ rest)) p) e ∙ word-skip (bytes4 n) (words ns ++ rest) (4 * m) ∙ words-at ns rest m (omega arith)
 
 -- a word of zeros
-pub zero-word : (l : List ℕ) (p : ℕ) → T (allZero l) → word l p ≡ 0
+pub zero-word : (n p : ℕ) → word (zeros n) p ≡ 0
 unfolding word
-zero-word l p t =
-    omega (arith, zero-bytes l t p, zero-bytes l t (p + 1), zero-bytes l t (p + 2), zero-bytes l t (p + 3))
+zero-word n p = omega (arith, zeros-byte n p, zeros-byte n (p + 1), zeros-byte n (p + 2), zeros-byte n (p + 3))

@@ -15,11 +15,6 @@ sameList [] (y ∷ ys) = false
 sameList (x ∷ xs) [] = false
 sameList (x ∷ xs) (y ∷ ys) = eqb x y && sameList xs ys
 
--- whether a list holds zeros only
-abbrev pub allZero : List ℕ → Bool
-allZero [] = true
-allZero (x ∷ xs) = eqb x 0 && allZero xs
-
 -- x stands in the list
 abbrev pub In : ℕ → List ℕ → Type 0
 In x [] = ⊥
@@ -63,7 +58,7 @@ zeroAt l i = eqb (getD l i 0) 0
 unfoldable pub firstZero : List ℕ → ℕ
 firstZero l = least (zeroAt l) (length l)
 
--- the bytes up to the zero
+-- the bytes up to the first zero, or all
 unfoldable pub upToZero : List ℕ → List ℕ
 upToZero l = take (firstZero l) l
 

@@ -1,5 +1,4 @@
 pub mod Put
-pub mod Zeros
 pub mod Same
 pub mod Copy
 pub mod Masks

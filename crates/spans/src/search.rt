@@ -1,6 +1,6 @@
 // Searches and tests of every byte.
 ghost use mathlib.Core.Path.{_≡_};
-ghost use Rattle.lists.specs.Lists.{allZero, sameList, firstZero};
+ghost use Rattle.lists.specs.Lists.{sameList, firstZero};
 
 // The index of the first zero byte, or the length.
 pub fn first_zero(p: &[u8]) -> usize
@@ -14,20 +14,6 @@ pub fn first_zero(p: &[u8]) -> usize
         i += 1;
     }
     p.len()
-}
-
-// Whether every byte is zero.
-pub fn all_zero(p: &[u8]) -> bool
-    ensures { λ r. ⌜ r ≡ allZero (now (p .entry)) ⌝ }
-{
-    let mut i = 0;
-    while i < p.len() {
-        if p[i] != 0 {
-            return false;
-        }
-        i += 1;
-    }
-    true
 }
 
 // Whether a and b have the same length and the same bytes.

@@ -2,7 +2,7 @@
 ghost use mathlib.Core.Path.{_≡_};
 ghost use Prim.Native.Nat.{_+_, _*_, _≤_};
 ghost use lib.ListN.{length};
-ghost use Rattle.lists.specs.Lists.{allZero, wordOf, word, bytes4, withPart, least};
+ghost use Rattle.lists.specs.Lists.{wordOf, word, bytes4, withPart, least};
 ghost use Rattle.spans.specs.Alike.{fourSame, wordIs, wordSame, wordDiffers};
 
 // The word of four bytes, the first the most significant.
@@ -29,26 +29,6 @@ pub fn put32(p: &mut [u8], at: usize, v: u32)
     p[at + 1] = (v / 256 / 256 % 256) as u8;
     p[at + 2] = (v / 256 % 256) as u8;
     p[at + 3] = (v % 256) as u8;
-}
-
-// Whether five words are zero.
-pub fn five_zero(p: &[u8]) -> bool
-    requires { ⌜ length (now p) ≡ 20 ⌝ }
-    ensures { λ r. ⌜ r ≡ allZero (now (p .entry)) ⌝ }
-{
-    if be32(p, 0) != 0 {
-        return false;
-    }
-    if be32(p, 4) != 0 {
-        return false;
-    }
-    if be32(p, 8) != 0 {
-        return false;
-    }
-    if be32(p, 12) != 0 {
-        return false;
-    }
-    be32(p, 16) == 0
 }
 
 // Whether four bytes are the same as four others.

@@ -1,5 +1,5 @@
 -- Each way through list on a consistent volume, with its directory as a part of the image.
-use mathlib.Core.Path.{_≡_, sym, ap, _∙_}
+use mathlib.Core.Path.{_≡_, sym, ap, _∙_, subst}
 use mathlib.Core.Bool.{true, false}
 use Prim.Native.Nat.{ℕ, _+_, _-_, _*_, _≤_, _<_}
 use mathlib.Core.List.{List, _++_}
@@ -12,7 +12,7 @@ use Rattle.tfs_spec.specs.Layout.{block, slot, slotFree, slotInode, slotName, i
 use Rattle.tfs_spec.specs.Check.{consistent, check}
 use Rattle.tfs_spec.specs.Consistent.{File}
 use Rattle.tfs_spec.specs.Requests.{refused, unused, file, listView}
-use Rattle.tfs_steps.specs.Ready.{file-ready, sized}
+use Rattle.tfs_steps.specs.Ready.{file-ready, sized, name-sized}
 
 pub list-past : (img : List ℕ) (s : ℕ) → 25 ≤ s → refused 14 0 ≡ listView 512 (view 512 img) s
 unfolding listView
@@ -35,6 +35,10 @@ module _ (img dir : List ℕ) (s : ℕ) (at : dir ≡ view 512 img .dir) (h : s 
     -- the inode of a file lies inside the image
     pub list-inside : i * 512 + 512 ≤ length img
     list-inside = file-ready img passed s taken i inode-is .0
+
+    pub list-named : (1 ≤ length (slotName (slot dir s))) × (length (slotName (slot dir s)) ≤ 15)
+    unfolding name
+    list-named = subst (λ (d : List ℕ). (1 ≤ length (slotName (slot d s))) × (length (slotName (slot d s)) ≤ 15)) (sym at) (name-sized img passed s taken)
 
     pub list-file : (z : ℕ) → z ≡ inodeSize (block 512 img i) → file (slotName (slot dir s)) i z ≡ listView 512 (view 512 img) s
     unfolding listView free name

@@ -66,7 +66,7 @@ listedName rules.unused = zeros 16
 listedName (rules.file nm i z) = padTo 16 nm
 listedName (rules.refused num p) = zeros 16
 
--- ---- each case holds numbers of its own: 1 to 7 are faults of the volume, 8 and above refusals of the request
+-- ---- each case holds numbers of its own: 1 to 7 are faults of the volume, 8 and above refusals of the request; a listed name has 1 to 15 bytes
 abbrev pub FaultFits : Fault → Type 0
 FaultFits (Header num) = (1 ≤ num) × (num ≤ 3)
 FaultFits (Slot num s) = (4 ≤ num) × (num ≤ 5)
@@ -88,6 +88,6 @@ DoneFits (done.Inconsistent f) = FaultFits f
 
 abbrev pub EntryFits : EntryAnswer → Type 0
 EntryFits entry.Free = Unit {0}
-EntryFits (entry.File len i z) = len ≤ 16
+EntryFits (entry.File len i z) = (1 ≤ len) × (len ≤ 15)
 EntryFits (entry.Refused num) = 8 ≤ num
 EntryFits (entry.Inconsistent f) = FaultFits f

@@ -14,6 +14,6 @@ use Rattle.tfs_c.specs.Result.{fileSlot, slotWith}
 pub told-file : (e : EntryAnswer) (name : List ℕ) (len i z : ℕ) → length name ≡ 16 → EntryFits e → e ≡ File len i z → fileSlot len i z name ≡ slotWith (entryTold e name) name
 unfolding slotWith
 told-file e name len i z long fits h =
-    let le : len ≤ 16 = subst EntryFits h fits in
+    let le : len ≤ 15 = subst EntryFits h fits .1 in
     let cut : length (take len name) ≡ len = length-take-le len name (omega (arith, long, le)) in
     ap (λ (k : ℕ). fileSlot k i z name) (sym cut) ∙ ap (λ (x : EntryAnswer). slotWith (entryTold x name) name) (sym h)

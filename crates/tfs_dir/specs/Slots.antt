@@ -2,11 +2,11 @@
 use mathlib.Core.Path.{_≡_, sym, ap, _∙_}
 use mathlib.Core.Bool.{Bool, false, _||_}
 use Prim.Native.Nat.{ℕ, _+_, _*_, _-_, _≤_, _<_}
-use native.Mathlib.Nat.{add-sub-cancel-left}
+use native.Mathlib.Nat.{add-zero, add-sub-cancel-left}
 use native.Mathlib.Omega.{arith}
 use mathlib.Core.List.{List}
-use lib.ListN.{length, getD, take, drop, length-drop}
-use lib.Seq.{take-all, take-take, drop-drop, length-take-le, getD-take}
+use lib.ListN.{length, getD, take, drop}
+use lib.Seq.{take-take, drop-drop, length-take-le, getD-take}
 use lib.Dec.{ltb, eqb}
 use borrow.Author.Tests.{ltb-false, eqb-false}
 use Rattle.list_laws.specs.Least.{least-le}
@@ -24,14 +24,17 @@ part-part s n t m l h =
     ∙ take-take m (n - t) (drop t (drop s l)) (omega arith)
     ∙ ap (take m) (drop-drop t s l)
 
--- all bytes from index z on
-pub rest-part : (l : List ℕ) (z n : ℕ) → length l ≡ n → take (n - z) (drop z l) ≡ drop z l
-rest-part l z n e = take-all (n - z) (drop z l) (simp length-drop (omega arith))
-
 -- the name field of slot s
 pub field-part : (dir : List ℕ) (s : ℕ) → part 4 16 (slot dir s) ≡ part (s * 20 + 4) 16 dir
 unfolding slot
 field-part dir s = part-part (s * 20) 20 4 16 dir (omega arith)
+
+-- the first byte of the name field of slot s
+pub first-byte : (dir : List ℕ) (s : ℕ) → getD (part 4 16 (slot dir s)) 0 0 ≡ getD dir (s * 20 + 4) 0
+first-byte dir s =
+    ap (λ (l : List ℕ). getD l 0 0) (field-part dir s)
+    ∙ getD-part (s * 20 + 4) 16 dir 0 (omega arith)
+    ∙ ap (λ (i : ℕ). getD dir i 0) (add-zero (s * 20 + 4))
 
 -- the name of slot s as the front of its field
 name-field : (dir : List ℕ) (s : ℕ) → take (firstZero (part (s * 20 + 4) 16 dir)) (part (s * 20 + 4) 16 dir) ≡ slotName (slot dir s)

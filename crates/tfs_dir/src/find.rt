@@ -17,10 +17,10 @@ pub fn slot_holds(dir: &[u8], name: &[u8], s: usize) -> bool
     requires { ⌜ (length (now dir) ≡ 512) × (s < 25) ⌝ }
     ensures { λ r. ⌜ r ≡ slotHolds (now (dir .entry)) (now (name .entry)) s ⌝ }
 {
-    if slot_free(dir, s) {
-        return false;
+    if slot_named(dir, s, name) {
+        return !slot_free(dir, s);
     }
-    slot_named(dir, s, name)
+    false
 }
 
 // The first slot below n that is taken under this name, or n.

@@ -2,7 +2,6 @@
 ghost use mathlib.Core.Path.{_≡_};
 ghost use lib.ListN.{length};
 ghost use Rattle.tfs_spec.specs.Layout.{nameFormed, nameAllowed, labelAllowed};
-use spans::search::all_zero;
 use spans::search::first_zero;
 use tfs_layout::NAME;
 
@@ -26,17 +25,13 @@ pub fn name_allowed(name: &[u8]) -> bool
     false
 }
 
-// Whether a slot's name field has a name of 1 to 15 bytes, then zeros to the end.
+// Whether a slot's name field has a zero, and does not begin with one.
 pub fn name_formed(field: &[u8]) -> bool
     requires { ⌜ length (now field) ≡ 16 ⌝ }
     ensures { λ r. ⌜ r ≡ nameFormed (now (field .entry)) ⌝ }
 {
-    let z = first_zero(field);
-    if z < 1 {
+    if field[0] == 0 {
         return false;
     }
-    if NAME <= z {
-        return false;
-    }
-    all_zero(&field[z..NAME])
+    first_zero(field) < NAME
 }

@@ -10,20 +10,9 @@ use spans::copy::copy;
 use spans::search::first_zero;
 use spans::search::same;
 use spans::words::be32;
-use spans::words::five_zero;
 use tfs_layout::NAME;
 use tfs_layout::NAME_AT;
 use tfs_layout::SLOT;
-
-// Whether slot s is free.
-pub fn slot_free(dir: &[u8], s: usize) -> bool
-    requires { ⌜ (length (now dir) ≡ 512) × (s < 25) ⌝ }
-    ensures { λ r. ⌜ r ≡ slotFree (slot (now (dir .entry)) s) ⌝ }
-{
-    let a = s * SLOT;
-    let e = a + SLOT;
-    five_zero(&dir[a..e])
-}
 
 // The inode number in slot s.
 pub fn slot_inode(dir: &[u8], s: usize) -> u32
@@ -33,6 +22,17 @@ pub fn slot_inode(dir: &[u8], s: usize) -> u32
     let a = s * SLOT;
     let e = a + SLOT;
     be32(&dir[a..e], 0)
+}
+
+// Whether slot s is free: inode number 0, and an empty name.
+pub fn slot_free(dir: &[u8], s: usize) -> bool
+    requires { ⌜ (length (now dir) ≡ 512) × (s < 25) ⌝ }
+    ensures { λ r. ⌜ r ≡ slotFree (slot (now (dir .entry)) s) ⌝ }
+{
+    if slot_inode(dir, s) != 0 {
+        return false;
+    }
+    dir[s * SLOT + NAME_AT] == 0
 }
 
 // Whether slot s is used, in a volume of n blocks.
@@ -89,8 +89,7 @@ pub fn slot_named(dir: &[u8], s: usize, name: &[u8]) -> bool
     }
     let k = name_length(dir, s);
     let a = s * SLOT + NAME_AT;
-    let e = a + k;
-    same(&dir[a..e], name)
+    same(&dir[a..a + k], name)
 }
 
 // The name in slot s, padded with zeros.

@@ -14,8 +14,8 @@ pub fn fill_slot(slot: &mut [u8], inode: u32, name: &[u8])
     requires { ⌜ (length (now slot) ≡ 20) × (length (now name) ≤ 15) ⌝ }
     ensures { λ _. ⌜ now (slot .exit) ≡ entry inode (now (name .entry)) ⌝ }
 {
-    zero(slot);
     put32(slot, 0, inode);
+    zero(&mut slot[NAME_AT..SLOT]);
     let e = NAME_AT + name.len();
     copy(&mut slot[NAME_AT..e], name);
 }
@@ -30,12 +30,11 @@ pub fn put_slot(dir: &mut [u8], s: usize, inode: u32, name: &[u8])
     fill_slot(&mut dir[a..e], inode, name);
 }
 
-// Makes slot s free.
+// Makes slot s free: 20 zeros.
 pub fn clear_slot(dir: &mut [u8], s: usize)
     requires { ⌜ (length (now dir) ≡ 512) × (s < 25) ⌝ }
     ensures { λ _. ⌜ now (dir .exit) ≡ setSlot (now (dir .entry)) s (replicate 20 0) ⌝ }
 {
     let a = s * SLOT;
-    let e = a + SLOT;
-    zero(&mut dir[a..e]);
+    zero(&mut dir[a..a + SLOT]);
 }

@@ -8,17 +8,17 @@ use native.Mathlib.Nat.{div-lt-iff-lt-mul, suc-mul}
 use native.Mathlib.Omega.{arith}
 use native.Mathlib.Decide.{decLe, decLt, ℕ-discrete}
 use lib.Arith.{le→nltb}
-use lib.ListN.{length, getD, take, drop, length-drop}
-use lib.Seq.{length-take-le, getD-drop}
+use lib.ListN.{length, getD}
 use lib.Dec.{T, leb, ltb, eqb, eqb→eq, leb→le, le→leb, ltb→lt, lt→ltb, nleb→lt, nltb→le, T-not, not-T}
-use Rattle.lists.specs.Lists.{allZero, least, zeroAt, firstZero, upToZero, word}
-use Rattle.list_laws.specs.Test.{zero-bytes, all-zero, by-test, cond-yes, cond-no, and-of, and-l, and-r, or-l, or-r, or-second, yes-yes, eqb-of, neqb-of, same-eq, same-refl}
-use Rattle.list_laws.specs.Least.{least-hit, least-below, least-none, least-is, least-all}
+use Rattle.lists.specs.Lists.{least, zeroAt, firstZero, word}
+use Rattle.list_laws.specs.Test.{by-test, cond-yes, cond-no, and-of, and-l, and-r, or-l, or-r, or-second, yes-yes, eqb-of, neqb-of, same-eq, same-refl}
+use Rattle.list_laws.specs.Least.{least-hit, least-below, least-none, least-all}
 use Rattle.list_laws.specs.Part.{length-part}
-use Rattle.tfs_spec.specs.Layout.{BlockSize, slots, numbers, maxSize, need, block, slot, slotInode, nameField, slotName, slotFree, nameFormed, slotUsed, magic, volumeName, inRange, mapBit, sameName, View, viewN, view, free, used, inode, name, size, number}
+use Rattle.tfs_spec.specs.Layout.{BlockSize, slots, numbers, maxSize, need, block, slot, slotInode, nameField, slotFree, nameFormed, slotUsed, magic, volumeName, inRange, mapBit, sameName, View, viewN, view, free, used, inode, name, size, number}
 use Rattle.tfs_spec.specs.Check.{Verdict, consistent, broken, found, tooShort, badMagic, badLabel, repeats, badSlot, badNumber, badInode, claims, times, claimedTwice, badBit, checkView, check}
 use Rattle.tfs_spec.specs.Consistent.{numberAt, File, Owner, inodeOf, contentOf, Owns, Owned, Inside, Sound, Consistent, WrongNumber, Broken, short, unmagical, unlabelled, malformed, repeated, oversized, misnumbered, twice, unmarked, stray, FirstBroken}
 use Rattle.tfs_facts.specs.Raw.{head-number, label-byte}
+use Rattle.tfs_facts.specs.Slots.{zero-found}
 use Rattle.tfs_facts.specs.Claims.{owned-claimed, claimed-owned, owners-twice, twice-owners}
 
 -- ---- a rule in the order of rules
@@ -86,57 +86,6 @@ in-range v b t = record { low = leb→le 3 b (and-l (leb 3 b) _ t); high = ltb�
 pub range-in : (v : View) (b : ℕ) → Inside v b → T (inRange (v .n) b)
 range-in v b h = and-of (leb 3 b) (ltb b (v .n)) (le→leb 3 b (h .low)) (lt→ltb b (v .n) (h .high))
 
--- ---- what the tests on a slot say, with no search
--- "name of 1 to 15 bytes, then zeros to the end": the 16 bytes f hold a name of k bytes
-pub record Named (f : List ℕ) (k : ℕ) : Type 0 where
-  pub some : 1 ≤ k
-  pub short : k ≤ 15
-  pub bytes : (i : ℕ) → i < k → getD f i 0 ≢ 0
-  pub zeros : (i : ℕ) → k ≤ i → i ≤ 15 → getD f i 0 ≡ 0
-
--- a field that holds a name of k bytes has its first zero there
-module _ (f : List ℕ) (k : ℕ) (e : length f ≡ 16) (h : Named f k) where
-  named-end : firstZero f ≡ k
-  unfolding firstZero zeroAt
-  named-end =
-      least-is (zeroAt f) (length f) k (omega (arith, h .short)) (eqb-of (h .zeros k (omega arith) (h .short)))
-      (λ i l. neqb-of (getD f i 0) 0 (h .bytes i l))
-
-  -- the name is the bytes before it
-  pub name-is : upToZero f ≡ take k f
-  unfolding upToZero
-  name-is = ap (λ (i : ℕ). take i f) named-end
-
-  pub name-length : length (upToZero f) ≡ k
-  name-length = ap length name-is ∙ length-take-le k f (omega (arith, h .short))
-
-  named-formed : T (nameFormed f)
-  unfolding nameFormed
-  named-formed =
-      rw named-end
-      (and-of (leb 1 k && ltb k 16) (allZero (drop k f))
-      (and-of (leb 1 k) (ltb k 16) (le→leb 1 k (h .some)) (lt→ltb k 16 (omega (arith, h .short))))
-      (all-zero (drop k f) (λ i l. getD-drop k f i 0 ∙ h .zeros (k + i) (omega arith) (omega (arith, length-drop k f)))))
-
-formed-name : (f : List ℕ) → length f ≡ 16 → T (nameFormed f) → Named f (firstZero f)
-unfolding nameFormed firstZero zeroAt
-formed-name f e t =
-    let k : ℕ = least (zeroAt f) (length f) in
-    let r : T (leb 1 k && ltb k 16) = and-l (leb 1 k && ltb k 16) (allZero (drop k f)) t in
-    let l : k < 16 = ltb→lt k 16 (and-r (leb 1 k) (ltb k 16) r) in
-    record {
-      some = leb→le 1 k (and-l (leb 1 k) (ltb k 16) r);
-      short = omega arith;
-      bytes = λ i j z. T-not (zeroAt f i) (least-below (zeroAt f) (length f) i j) (eqb-of z);
-      zeros = λ i j m.
-          (let a : k + (i - k) ≡ i = omega arith in
-          ap (λ (x : ℕ). getD f x 0) (sym a) ∙ sym (getD-drop k f (i - k) 0) ∙ zero-bytes (drop k f) (and-r (leb 1 k && ltb k 16) (allZero (drop k f)) t) (i - k));
-    }
-
--- "name of 1 to 15 bytes, then zeros to the end"
-pub formed-named : (f : List ℕ) → length f ≡ 16 → T (nameFormed f) ↔ ((k : ℕ) × Named f k)
-formed-named f e = ((λ t. (firstZero f, formed-name f e t)), λ n. named-formed f (n .0) e (n .1))
-
 -- whether names are the same is whether they are equal
 pub same-means : (a b : List ℕ) → T (sameName a b) ↔ (a ≡ b)
 unfolding sameName
@@ -151,28 +100,30 @@ module _ (B : ℕ) (v : View) (s : ℕ) (dir : length (v .dir) ≡ B) (low : s <
   pub length-field : length (nameField (slot (v .dir) s)) ≡ 16
   length-field = length-part 4 16 (slot (v .dir) s) (omega (arith, length-slot))
 
-  -- "free (20 zero bytes)"
-  pub free-means : T (free v s) ↔ ((i : ℕ) → i < 20 → getD (slot (v .dir) s) i 0 ≡ 0)
-  unfolding free slotFree
-  free-means = (
-    (λ t i l. zero-bytes (slot (v .dir) s) t i),
-    λ h. all-zero (slot (v .dir) s) (λ i l. h i (omega (arith, length-slot))),
-  )
+  -- "a free slot has inode 0 and first name byte 0"
+  pub free-means : T (free v s) ↔ ((inode v s ≡ 0) × (getD (nameField (slot (v .dir) s)) 0 0 ≡ 0))
+  unfolding free slotFree inode zeroAt
+  free-means =
+      let i : ℕ = slotInode (slot (v .dir) s) in
+      let x : ℕ = getD (nameField (slot (v .dir) s)) 0 0 in
+      ((λ t. (eqb→eq i 0 (and-l (eqb i 0) (eqb x 0) t), eqb→eq x 0 (and-r (eqb i 0) (eqb x 0) t))), λ h. and-of (eqb i 0) (eqb x 0) (eqb-of (h .0)) (eqb-of (h .1)))
 
-  -- "used (inode in 3..N−1; name of 1 to 15 bytes, then zeros to the end)"
-  pub used-means : T (used v s) ↔ (Inside v (inode v s) × ((k : ℕ) × Named (nameField (slot (v .dir) s)) k))
-  unfolding used slotUsed inode
+  -- "A used slot, its inode as before, has a zero in its 16 name bytes and a first byte not zero"
+  pub used-means : T (used v s) ↔ (Inside v (inode v s) × ((i : ℕ) × (i < 16) × (getD (nameField (slot (v .dir) s)) i 0 ≡ 0)) × (getD (nameField (slot (v .dir) s)) 0 0 ≢ 0))
+  unfolding used slotUsed inode nameFormed zeroAt
   used-means =
       let i : ℕ = slotInode (slot (v .dir) s) in
-      let f : List ℕ = nameField (slot (v .dir) s) in (
-        (λ t. (in-range v i (and-l (inRange (v .n) i) _ t), formed-named f length-field .0 (and-r (inRange (v .n) i) (nameFormed f) t))),
-        λ h. and-of (inRange (v .n) i) (nameFormed f) (range-in v i (h .0)) (formed-named f length-field .1 (h .1)),
+      let f : List ℕ = nameField (slot (v .dir) s) in
+      let x : ℕ = getD f 0 0 in
+      let z : Bool = ltb (firstZero f) 16 in (
+        (λ t.
+            let u : T (z && not (eqb x 0)) = and-r (inRange (v .n) i) (nameFormed f) t in
+            let k = zero-found f .0 (omega (arith, length-field, ltb→lt (firstZero f) 16 (and-l z (not (eqb x 0)) u))) in
+            (in-range v i (and-l (inRange (v .n) i) _ t), (k .0, omega (arith, length-field, k .1), k .2), λ e. T-not (eqb x 0) (and-r z (not (eqb x 0)) u) (eqb-of e))),
+        λ h.
+            and-of (inRange (v .n) i) (nameFormed f) (range-in v i (h .0))
+            (and-of z (not (eqb x 0)) (lt→ltb (firstZero f) 16 (omega (arith, length-field, zero-found f .1 (h .1 .0, omega (arith, length-field, h .1 .1), h .1 .2)))) (neqb-of x 0 (h .2))),
       )
-
-  -- the name of a used slot is those bytes
-  pub name-means : (k : ℕ) → Named (nameField (slot (v .dir) s)) k → name v s ≡ take k (nameField (slot (v .dir) s))
-  unfolding name slotName
-  name-means k h = name-is (nameField (slot (v .dir) s)) k length-field h
 
 -- a test that holds somewhere below n is found
 least-found : (f : ℕ → Bool) (n i : ℕ) → i < n → T (f i) → least f n < n

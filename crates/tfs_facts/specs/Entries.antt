@@ -2,25 +2,21 @@
 use mathlib.Core.Path.{_≡_, refl, sym, ap, ap₂, _∙_, subst}
 use mathlib.Core.Logic.{_≢_}
 use mathlib.Core.Bool.{not}
-use Prim.Native.Nat.{ℕ, zero, suc, _+_, _-_, _*_, _≤_, _<_}
+use Prim.Native.Nat.{ℕ, suc, _+_, _-_, _*_, _≤_, _<_}
 use mathlib.Core.List.{List, _∷_, _++_}
 use native.Mathlib.Omega.{arith}
 use lib.ListN.{length, getD, take, length-append, length-take, length-replicate, List·getD-append}
 use lib.Seq.{take-all, take-at, getD-append-add}
-use lib.Dec.{T, leb, ltb, leb→le, ltb→lt, eqb→eq, T-not, not-T}
-use Rattle.lists.specs.Lists.{allZero, zeros, zeroAt, firstZero, upToZero, padTo, word, bytes4, words, part}
-use Rattle.list_laws.specs.Test.{zero-bytes, and-of, and-l, and-r, eqb-of}
+use lib.Dec.{T, leb, ltb, leb→le, ltb→lt, eqb→eq, T-not}
+use Rattle.lists.specs.Lists.{zeros, zeroAt, firstZero, upToZero, padTo, word, bytes4, words, part}
+use Rattle.list_laws.specs.Test.{zeros-byte, and-l, and-r, eqb-of}
 use Rattle.list_laws.specs.Least.{least-below}
 use Rattle.list_laws.specs.Word.{length-words, words-at, word-bytes4, word-skip, zero-word}
-use Rattle.tfs_spec.specs.Layout.{slotInode, nameField, slotName, slotFree, slotUsed, nameFormed, inRange, entry, inodeSize, inodeNumber, inodeBlock, labelAllowed, nameAllowed}
-use Rattle.tfs_facts.specs.CheckMeans.{Named, name-is, formed-named}
+use Rattle.tfs_spec.specs.Layout.{slotInode, nameField, slotName, slotFree, slotUsed, inRange, entry, inodeSize, inodeNumber, inodeBlock, labelAllowed, nameAllowed}
+use Rattle.tfs_facts.specs.Slots.{Ends, name-is, named-taken, used-of}
 
 pub length-pad : (n : ℕ) (l : List ℕ) → length (padTo n l) ≡ n
 length-pad n l = simp (length-append, length-take, length-replicate) (omega arith)
-
-pub zeros-zero : (n : ℕ) → T (allZero (zeros n))
-zeros-zero zero = tt
-zeros-zero (suc n) = zeros-zero n
 
 -- ---- a name that requests allow
 pub record Allowed (nm : List ℕ) : Type 0 where
@@ -54,24 +50,20 @@ module _ (nm : List ℕ) (ok : Allowed nm) where
       ap (λ (x : List ℕ). getD x i 0) pad-is
       ∙ ap (λ (j : ℕ). getD (nm ++ zeros (16 - length nm)) j 0) (omega arith)
       ∙ getD-append-add nm (zeros (16 - length nm)) (i - length nm) 0
-      ∙ zero-bytes (zeros (16 - length nm)) (zeros-zero (16 - length nm)) (i - length nm)
+      ∙ zeros-byte (16 - length nm) (i - length nm)
 
   -- the padded field holds the name
-  pub field-named : Named (padTo 16 nm) (length nm)
-  field-named =
+  field-ends : Ends (padTo 16 nm) (length nm)
+  field-ends =
       record {
-        some = ok .some;
-        short = omega (arith, ok .short);
+        short = omega (arith, length-pad 16 nm, ok .short);
         bytes = λ i l e. ok .whole i l (sym (field-byte i l) ∙ e);
-        zeros = λ i h l. field-rest i h;
+        end = field-rest (length nm) (omega arith);
       }
 
   pub field-name : upToZero (padTo 16 nm) ≡ nm
   field-name =
-      name-is (padTo 16 nm) (length nm) (length-pad 16 nm) field-named ∙ ap (take (length nm)) pad-is ∙ take-at nm (zeros (16 - length nm)) (length nm) refl
-
-  pub field-formed : T (nameFormed (padTo 16 nm))
-  field-formed = formed-named (padTo 16 nm) (length-pad 16 nm) .1 (length nm, field-named)
+      name-is (padTo 16 nm) (length nm) field-ends ∙ ap (take (length nm)) pad-is ∙ take-at nm (zeros (16 - length nm)) (length nm) refl
 
   -- ---- the entry of inode i
   module _ (i : ℕ) where
@@ -92,16 +84,12 @@ module _ (nm : List ℕ) (ok : Allowed nm) where
     entry-name = ap upToZero entry-field ∙ field-name
 
     pub entry-taken : T (not (slotFree (entry i nm)))
-    unfolding slotFree entry
-    entry-taken =
-        not-T (allZero (entry i nm))
-        (λ t. ok .whole 0 (ok .some) (sym (field-byte 0 (ok .some)) ∙ zero-bytes (entry i nm) t 4))
+    entry-taken = named-taken (entry i nm) (λ e. omega (arith, ok .some, ap length (sym entry-name ∙ e)))
 
     pub entry-used : (n : ℕ) → T (inRange n i) → T (slotUsed n (entry i nm))
-    unfolding slotUsed
     entry-used n r =
-        and-of (inRange n (slotInode (entry i nm))) (nameFormed (nameField (entry i nm)))
-        (subst (λ (x : ℕ). T (inRange n x)) (sym entry-inode) r) (subst (λ (x : List ℕ). T (nameFormed x)) (sym entry-field) field-formed)
+        used-of (entry i nm) n (subst (λ (x : ℕ). T (inRange n x)) (sym entry-inode) r)
+        (omega (arith, ok .some, ap length entry-name)) (omega (arith, ok .short, ap length entry-name))
 
 -- ---- the inode of a file
 module _ (B sz : ℕ) (bs : List ℕ) (few : 4 * (1 + length bs) ≤ B) where
@@ -129,4 +117,4 @@ module _ (B sz : ℕ) (bs : List ℕ) (few : 4 * (1 + length bs) ≤ B) where
   unfolding inodeNumber
   inode-rest k h =
       let e : 4 + 4 * k ≡ length (words (sz ∷ bs)) + 4 * (k - length bs) = omega (arith, length-words (sz ∷ bs)) in
-      ap₂ word block-is e ∙ word-skip (words (sz ∷ bs)) rest (4 * (k - length bs)) ∙ zero-word rest (4 * (k - length bs)) (zeros-zero (B - length (words (sz ∷ bs))))
+      ap₂ word block-is e ∙ word-skip (words (sz ∷ bs)) rest (4 * (k - length bs)) ∙ zero-word (B - length (words (sz ∷ bs))) (4 * (k - length bs))

@@ -6,19 +6,14 @@ use Prim.Native.Nat.{ℕ, zero, suc, _%_, _≤_, _<_}
 use mathlib.Core.List.{List, [], _∷_}
 use native.Mathlib.Omega.{arith}
 use native.Mathlib.Decide.{decLt}
-use lib.ListN.{length, getD, length-replicate}
+use lib.ListN.{length, length-replicate}
 use lib.Dec.{T, ltb, eqb, ltb→lt}
 use borrow.Author.Tests.{lt-ltb, le-ltb}
-use Rattle.list_laws.specs.Test.{zero-bytes, of-true}
+use Rattle.list_laws.specs.Test.{zeros-byte, of-true}
 use Rattle.lists.specs.Lists.{zeros, bitOf, In}
 use Rattle.list_laws.specs.Bits.{bit-zero}
 use Rattle.tfs_spec.specs.Layout.{mapByte, mapBit, setBits}
-use Rattle.tfs_facts.specs.Entries.{zeros-zero}
 use Rattle.tfs_facts.specs.MapBits.{Mapped, bits-kept, bits-set}
-
--- ---- zeros
-pub zeros-byte : (n i : ℕ) → getD (zeros n) i 0 ≡ 0
-zeros-byte n i = zero-bytes (zeros n) (zeros-zero n) i
 
 -- no block is marked in a map of zeros
 zeros-clear : (n b : ℕ) → mapBit (zeros n) b ≡ false

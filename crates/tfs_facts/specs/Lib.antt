@@ -1,4 +1,5 @@
 pub mod Raw
+pub mod Slots
 pub mod Claims
 pub mod CheckMeans
 pub mod MapWords

@@ -11,15 +11,15 @@ use lib.Dec.{T, leb, ltb, le→leb, lt→ltb}
 use Rattle.list_laws.specs.Test.{by-test, cond-yes, and-of}
 use Rattle.list_laws.specs.Table.{getD-table, getD-table-out}
 use Rattle.lists.specs.Lists.{word}
-use Rattle.list_laws.specs.Word.{zero-word}
-use Rattle.tfs_spec.specs.Layout.{slots, blocks, block, slot, slotInode, slotFree, inRange, inodeSize, View, view, viewN, inodeAt, free, inode, size}
+use Rattle.tfs_spec.specs.Layout.{slots, blocks, block, slot, slotInode, inRange, inodeSize, View, view, viewN, inodeAt, free, inode, size}
 use Rattle.tfs_spec.specs.Consistent.{File, Inside}
+use Rattle.tfs_facts.specs.Slots.{free-number}
 use Rattle.tfs_facts.specs.Stores.{length-block}
 
 -- a free slot has inode number 0
 pub free-inode : (v : View) (s : ℕ) → T (free v s) → inode v s ≡ 0
-unfolding free inode slotFree slotInode
-free-inode v s t = zero-word (slot (v .dir) s) 0 t
+unfolding free inode
+free-inode v s t = free-number (slot (v .dir) s) t
 
 module _ (B : ℕ) (img : List ℕ) where
   pub view-n : view B img .n ≡ blocks B img

@@ -1,47 +1,37 @@
--- A granted create, then a remove of that name, gives directory and map back byte for byte.
+-- A granted create, then a remove of that name: the map is back byte for byte, of the directory each slot's inode number and name.
 use mathlib.Core.Path.{_≡_, sym, ap, ap₂, _∙_, subst}
-use mathlib.Core.Logic.{_≢_}
+use mathlib.Core.Logic.{_≢_, _⊎_}
 use Prim.Native.Nat.{ℕ, suc, _+_, _*_, _≤_, _<_}
 use mathlib.Core.List.{List, [], _∷_}
 use native.Mathlib.Omega.{arith}
-use lib.ListN.{length, getD, length-replicate, getD-replicate}
+use native.Mathlib.Decide.{ℕ-discrete}
+use lib.ListN.{length, getD}
 use lib.Seq.{ext-getD}
 use lib.Dec.{T}
-use Rattle.lists.specs.Lists.{zeros, allZero, table, part, withPart}
-use Rattle.list_laws.specs.Test.{zero-bytes}
+use Rattle.lists.specs.Lists.{zeros, table, part}
+use Rattle.list_laws.specs.Test.{zeros-byte}
 use Rattle.list_laws.specs.Table.{table-cong, table-getD}
-use Rattle.list_laws.specs.Part.{length-part, with-with, with-same}
-use Rattle.tfs_spec.specs.Layout.{BlockSize, slots, block, slot, setSlot, setBits, mapBit, need, entry, slotFree, nameAllowed, View, view, free, size, number, slotOf, freeSlot}
+use Rattle.list_laws.specs.Part.{length-part, getD-part}
+use Rattle.tfs_spec.specs.Layout.{BlockSize, slots, block, slot, slotInode, slotName, setBits, mapBit, need, nameAllowed, View, view, viewN, free, inode, name, size, number, slotOf, freeSlot}
 use Rattle.tfs_spec.specs.Check.{fileClaims}
 use Rattle.tfs_spec.specs.Consistent.{Consistent}
 use Rattle.tfs_facts.specs.Lookups.{lookup-there}
 use Rattle.tfs_facts.specs.CheckMeans.{check-means}
 use Rattle.tfs_spec.specs.Requests.{Answer, done, refused, granted, Outcome, storeAll, create, createStores, chosen, Lookup, looked, removeView, removeStores, remove, stored}
-use Rattle.tfs_spec.specs.Laws.{BackLaw}
-use Rattle.tfs_facts.specs.Views.{view-dir, view-map, length-dir}
+use Rattle.tfs_spec.specs.Answers.{Stands}
+use Rattle.tfs_spec.specs.Effects.{SameSlot, RemoveTouch, CreateTouch}
+use Rattle.tfs_spec.specs.Laws.{undone, BackLaw}
+use Rattle.tfs_facts.specs.Slots.{free-number, free-name, zeros-free}
+use Rattle.tfs_facts.specs.Stores.{length-block}
+use Rattle.tfs_facts.specs.Views.{view-map}
 use Rattle.tfs_facts.specs.MapBits.{in-at, Distinct, setBits-undo}
 use Rattle.tfs_facts.specs.Names.{slot-is, free-hit, claims-is, name-refl}
-use Rattle.tfs_facts.specs.Entries.{length-entry, allowed}
 use Rattle.tfs_facts.specs.Chosen.{CreateGrant, choice}
 use Rattle.tfs_proofs.specs.Creates as made
 use Rattle.tfs_proofs.specs.Removes as removed
+use Rattle.tfs_proofs.specs.SlotBytes.{slot-kept, dir-long, same-slot}
+use Rattle.tfs_proofs.specs.Touches.{remove-touches, created-touch}
 use Rattle.tfs_proofs.specs.Changes.{Passed, create-granted, create-image, remove-is}
-
--- a list of zeros only
-zeros-is : (l : List ℕ) → T (allZero l) → l ≡ zeros (length l)
-zeros-is l t =
-    ext-getD 0 l (zeros (length l)) (sym (length-replicate (length l) 0))
-    (λ i h. zero-bytes l t i ∙ sym (getD-replicate {A = ℕ} (length l) i 0 0 h))
-
--- a slot that was free, set and zeroed
-slot-back : (B : ℕ) (dir : List ℕ) (s : ℕ) (e : List ℕ) → length dir ≡ B → s < slots B → length e ≡ 20 → T (slotFree (slot dir s)) → setSlot (setSlot dir s e) s (zeros 20) ≡ dir
-unfolding setSlot slot slotFree
-slot-back B dir s e ld h le free =
-    let in-dir : s * 20 + 20 ≤ length dir = omega arith in
-    let z : part (s * 20) 20 dir ≡ zeros 20 = zeros-is (part (s * 20) 20 dir) free ∙ ap zeros (length-part (s * 20) 20 dir in-dir) in
-    with-with (s * 20) 20 (zeros 20) e dir le (omega arith)
-    ∙ ap (λ (x : List ℕ). withPart (s * 20) 20 x dir) (sym z)
-    ∙ with-same (s * 20) 20 dir
 
 -- a list without repeats
 distinct-of : (l : List ℕ) → ((m j : ℕ) → m < j → j < length l → getD l m 0 ≢ getD l j 0) → Distinct l
@@ -97,14 +87,6 @@ module _ (B : ℕ) (sz : BlockSize B) (img : List ℕ) (ok : Consistent B img) (
           ∙ ap (λ (x : ℕ). table (λ k. getD bs k 0) 0 x) (sym (made.length-bs B sz img ok nm z gr))
           ∙ table-getD bs 0
 
-  dir-back : block B (storeAll B mid (removeStores B v′ nm)) 2 ≡ block B img 2
-  unfolding free
-  dir-back =
-      removed.new-dir B sz mid ok-mid nm hit
-      ∙ ap₂ (λ (d : List ℕ) (t : ℕ). setSlot d t (zeros 20)) (view-dir B mid ∙ made.new-dir B sz img ok nm z gr) at-slot
-      ∙ slot-back B (v .dir) s (entry (made.i B sz img ok nm z gr) nm) (length-dir B img (ok .long)) (gr .slot) (length-entry nm (allowed nm (gr .named)) (made.i B sz img ok nm z gr)) (free-hit B v (gr .slot))
-      ∙ view-dir B img
-
   map-back : block B (storeAll B mid (removeStores B v′ nm)) 1 ≡ block B img 1
   map-back =
       let cs : List ℕ = chosen B v z in
@@ -123,16 +105,50 @@ unfolding removeView
 remove-yes B v nm t h =
     ap (λ (x : Lookup). looked x refused (λ s. done)) (lookup-there B v nm t h)
 
-pub back-law : (B : ℕ) → BlockSize B → (img : List ℕ) → Consistent B img → (nm : List ℕ) (z : ℕ) → T (granted (create B img nm z .answer)) → BackLaw B img nm z
-back-law B sz img ok nm z g =
-    record {
-      answer = ap (λ (x : List ℕ). remove B x nm .answer) e ∙ ap (λ (o : Outcome). o .answer) is;
-      map = ap (λ (x : List ℕ). block B (remove B x nm .image) 1) e ∙ ap (λ (o : Outcome). block B (o .image) 1) is ∙ map-back B sz img ok nm z g;
-      directory = ap (λ (x : List ℕ). block B (remove B x nm .image) 2) e ∙ ap (λ (o : Outcome). block B (o .image) 2) is ∙ dir-back B sz img ok nm z g;
-    }
+-- the created file stands in the lowest free slot
+pub created-stands : (B : ℕ) → BlockSize B → (img : List ℕ) → Consistent B img → (nm : List ℕ) (z : ℕ) → T (granted (create B img nm z .answer)) → Stands B (view B (create B img nm z .image)) nm (freeSlot B (view B img))
+created-stands B sz img ok nm z g =
+    subst (λ (x : List ℕ). Stands B (view B x) nm (freeSlot B (view B img))) (sym (create-image B img (check-means B sz img .1 ok) nm z g))
+    (record { file = made.new-file B sz img ok nm z (gr B sz img ok nm z g); named = made.new-name B sz img ok nm z (gr B sz img ok nm z g) })
+
+-- a slot of zero bytes
+slot-zeros : (B : ℕ) (img : List ℕ) (s : ℕ) → 3 * B ≤ length img → s < slots B → ((i : ℕ) → i < 20 → getD (block B img 2) (s * 20 + i) 0 ≡ 0) → slot (block B img 2) s ≡ zeros 20
+unfolding slot
+slot-zeros B img s l h z =
+    let long : length (part (s * 20) 20 (block B img 2)) ≡ 20 = length-part (s * 20) 20 (block B img 2) (omega (arith, length-block B img 2 (removed.low-inside B img l 2 (omega arith)))) in
+    ext-getD 0 (part (s * 20) 20 (block B img 2)) (zeros 20) long
+    (λ i k. getD-part (s * 20) 20 (block B img 2) i (omega arith) ∙ z i (omega arith) ∙ sym (zeros-byte 20 i))
+
+-- a slot that was free, and one of zeros, have one inode number and one name
+zeroed-slot : (B : ℕ) (img new : List ℕ) (s : ℕ) → T (free (view B img) s) → slot (block B new 2) s ≡ zeros 20 → SameSlot B new img s
+unfolding free inode name view viewN
+zeroed-slot B img new s t z = (
+  ap slotInode z ∙ free-number (zeros 20) zeros-free ∙ sym (free-number (slot (block B img 2) s) t),
+  ap slotName z ∙ free-name (zeros 20) zeros-free ∙ sym (free-name (slot (block B img 2) s) t),
+)
+
+pub back-law : (B : ℕ) → BlockSize B → (img : List ℕ) → Consistent B img → (nm : List ℕ) (z : ℕ) → T (granted (create B img nm z .answer)) → (s : ℕ) × BackLaw B img nm z s
+back-law B sz img ok nm z g = (
+  s,
+  record {
+    answer = ap (λ (x : List ℕ). remove B x nm .answer) e ∙ ap (λ (o : Outcome). o .answer) is;
+    map = ap (λ (x : List ℕ). block B (remove B x nm .image) 1) e ∙ ap (λ (o : Outcome). block B (o .image) 1) is ∙ map-back B sz img ok nm z g;
+    slots-same = λ t h.
+        elim (ℕ-discrete t s) [
+          | yes i ↦ subst (SameSlot B (undone B img nm z) img) (sym i) (zeroed-slot B img (undone B img nm z) s (free-hit B (view B img) (gr B sz img ok nm z g .slot)) zeroed)
+          | no d ↦ same-slot B (undone B img nm z) img t (slot-kept s t (block B (undone B img nm z) 2) (block B img 2) (dir-long B (undone B img nm z) img (ok .long) long) d others)
+        ];
+    stood = stood;
+    zeroed = zeroed;
+    others = others;
+  },
+)
   where
     m : List ℕ
     m = storeAll B img (createStores B (view B img) nm z)
+
+    s : ℕ
+    s = freeSlot B (view B img)
 
     e : create B img nm z .image ≡ m
     e = create-image B img (check-means B sz img .1 ok) nm z g
@@ -144,3 +160,21 @@ back-law B sz img ok nm z g =
     is =
         remove-is B m (check-means B sz m .1 (ok-mid B sz img ok nm z g)) nm
         ∙ ap (λ (a : Answer). stored B m a (removeStores B (view B m) nm)) yes-answer
+
+    stood : Stands B (view B (create B img nm z .image)) nm s
+    stood = created-stands B sz img ok nm z g
+
+    first : CreateTouch B img (create B img nm z .image) nm z (getD (chosen B (view B img) z) 0 0) s (chosen B (view B img) z)
+    first = created-touch B sz img ok nm z g
+
+    then : RemoveTouch B (create B img nm z .image) (undone B img nm z) s
+    then = remove-touches B sz (create B img nm z .image) (subst (Consistent B) (sym e) (ok-mid B sz img ok nm z g)) nm s stood
+
+    long : length (undone B img nm z) ≡ length img
+    long = then .long ∙ first .long
+
+    others : (i : ℕ) → (i < s * 20) ⊎ (s * 20 + 20 ≤ i) → getD (block B (undone B img nm z) 2) i 0 ≡ getD (block B img 2) i 0
+    others i h = then .entries i h ∙ first .entries i h
+
+    zeroed : slot (block B (undone B img nm z) 2) s ≡ zeros 20
+    zeroed = slot-zeros B (undone B img nm z) s (omega (arith, ok .long, long)) (gr B sz img ok nm z g .slot) (then .zeroed)

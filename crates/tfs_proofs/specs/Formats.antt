@@ -6,10 +6,10 @@ use mathlib.Core.Option.{none}
 use Prim.Native.Nat.{ℕ, suc, _+_, _-_, _*_, _≤_, _<_}
 use mathlib.Core.List.{List, [], _∷_, _++_}
 use native.Mathlib.Omega.{arith}
-use lib.ListN.{length, getD, drop, length-take, length-replicate}
+use lib.ListN.{length, getD, length-replicate}
 use lib.Seq.{take-all, getD-append-add}
 use lib.Dec.{T, ltb, ltb→lt, nltb→le, T-not}
-use Rattle.list_laws.specs.Test.{all-zero, by-test, cond-yes, cond-no, and-l, no-and, yes-yes}
+use Rattle.list_laws.specs.Test.{zeros-byte, by-test, cond-yes, cond-no, and-l, no-and, yes-yes}
 use Rattle.list_laws.specs.Least.{least-all}
 use Rattle.lists.specs.Lists.{zeros, padTo, part, word, bytes4, withBit}
 use Rattle.list_laws.specs.Part.{getD-part}
@@ -21,19 +21,18 @@ use Rattle.tfs_facts.specs.Claims.{slotIn, owns-file}
 use Rattle.tfs_spec.specs.Requests.{done, granted, Outcome, store, storeAll, refuse, formatStores, format}
 use Rattle.tfs_facts.specs.Raw.{head-number, label-byte}
 use Rattle.tfs_facts.specs.Views.{view-head, view-map, view-dir}
+use Rattle.tfs_facts.specs.Slots.{zero-free}
 use Rattle.tfs_facts.specs.Stores.{Fits, length-storeAll, stored-first, fits-up, stored-past, stored-at}
 use Rattle.tfs_facts.specs.Entries.{length-pad}
 use Rattle.tfs_proofs.specs.Others.{stands-not}
 use Rattle.tfs_facts.specs.MapBits.{length-setBits}
-use Rattle.tfs_facts.specs.FreshMap.{zeros-byte, formatMap, marked-low, low-marked}
+use Rattle.tfs_facts.specs.FreshMap.{formatMap, marked-low, low-marked}
 
 -- ---- zeros
 -- each slot of a directory of zeros is free
-zeros-free : (n s : ℕ) → T (slotFree (slot (zeros n) s))
-unfolding slotFree slot part
-zeros-free n s =
-    all-zero (part (s * 20) 20 (zeros n))
-    (λ i l. getD-part (s * 20) 20 (zeros n) i (omega (arith, length-take 20 (drop (s * 20) (zeros n)))) ∙ zeros-byte n (s * 20 + i))
+directory-free : (n s : ℕ) → T (slotFree (slot (zeros n) s))
+unfolding slot
+directory-free n s = zero-free (part (s * 20) 20 (zeros n)) (λ i l. getD-part (s * 20) 20 (zeros n) i (omega arith) ∙ zeros-byte n (s * 20 + i))
 
 -- ---- what format stores
 abbrev formatHead : ℕ → List ℕ → List ℕ
@@ -125,7 +124,7 @@ module _ (B : ℕ) (size : BlockSize B) (img label : List ℕ) (long : 3 * B ≤
 
   formatted-free : (s : ℕ) → T (free (view B formatted) s)
   unfolding free
-  formatted-free s = subst (λ (d : List ℕ). T (slotFree (slot d s))) (sym formatted-dir) (zeros-free B s)
+  formatted-free s = subst (λ (d : List ℕ). T (slotFree (slot d s))) (sym formatted-dir) (directory-free B s)
 
   formatted-consistent : length label < 16 → Consistent B formatted
   formatted-consistent l =

@@ -7,22 +7,22 @@ use Prim.Native.Nat.{ℕ, _+_, _-_, _*_, _≤_, _<_}
 use mathlib.Core.List.{List, []}
 use native.Mathlib.Omega.{arith}
 use native.Mathlib.Decide.{decLt}
-use lib.ListN.{length, getD, take}
-use lib.Seq.{length-take-le, getD-take}
+use lib.ListN.{length, getD}
+use lib.Seq.{getD-take}
 use lib.Arith.{le→nltb}
 use lib.Dec.{T, leb, ltb, leb→le, ltb→lt, nltb→le, le→leb, lt→ltb, eqb→eq, T-not, not-T}
 use Rattle.list_laws.specs.Test.{cond-yes, cond-no, and-of, and-l, and-r, not-not, yes-yes, no-false, to-true, eqb-of, neqb-of}
 use Rattle.lists.specs.Lists.{least, zeroAt, firstZero}
 use Rattle.list_laws.specs.Least.{least-hit, least-none, least-below, least-all}
-use Rattle.tfs_spec.specs.Layout.{BlockSize, slots, maxSize, need, mapBit, slot, nameField, labelAllowed, nameAllowed, View, view, free, used, name, size, slotOf, freeSlot, freeBlocks}
+use Rattle.tfs_spec.specs.Layout.{BlockSize, slots, maxSize, need, mapBit, slot, labelAllowed, nameAllowed, View, view, free, used, name, size, slotOf, freeSlot, freeBlocks}
 use Rattle.tfs_spec.specs.Check.{consistent, check, tooShort}
 use Rattle.tfs_spec.specs.Consistent.{Sound, Consistent}
 use Rattle.tfs_facts.specs.Claims.{count-some}
-use Rattle.tfs_facts.specs.CheckMeans.{check-means, same-means, length-field, used-means, name-means}
+use Rattle.tfs_facts.specs.CheckMeans.{check-means, same-means}
+use Rattle.tfs_facts.specs.Slots.{used-short, used-named, name-whole}
 use Rattle.tfs_facts.specs.Room.{free-cursor}
 use Rattle.tfs_spec.specs.Requests.{Request, changes, checks, reads, lists, counts, creates, removes, writes, perform, reply, checkAnswer, freeAnswer, Answer, done, value, unused, file, refused, granted, Outcome, refuse, Lookup, lookup, looked, freeFrom, chosen, createView, create, removeView, remove, counted, transferAnswer, read, write, listView, listAnswer, format}
 use Rattle.tfs_spec.specs.Answers.{LabelRule, NameRule, Stands, Fresh, Vacant, LowestBlock, FindRule, misnamed, absent, found, CreateRule, unnamed, oversized, standing, full, cramped, created, TransferRule, beyond, moved, ListRule, outside, vacant, holds, FormatRule, short, unlabelled, formatted, Rule}
-use Rattle.tfs_facts.specs.Views.{length-dir}
 use Rattle.tfs_facts.specs.Names.{slot-hit, slot-miss, slot-is, free-hit}
 use Rattle.tfs_proofs.specs.Changes.{create-is, remove-is}
 use Rattle.tfs_facts.specs.Lookups.{lookup-misnamed, lookup-absent, lookup-there, by-lookup}
@@ -303,18 +303,11 @@ module _ (B : ℕ) (sz : BlockSize B) (img : List ℕ) (ok : Consistent B img) w
 
 -- every name that stands is one that requests take
 pub stands-named : (B : ℕ) (img : List ℕ) → Consistent B img → (nm : List ℕ) (s : ℕ) → Stands B (view B img) nm s → NameRule nm
+unfolding used name
 stands-named B img ok nm s st =
-    let v : View = view B img in
-    let low : s < slots B = st .file .slot in
-    let dir : length (v .dir) ≡ B = length-dir B img (ok .long) in
-    let f : List ℕ = nameField (slot (v .dir) s) in
-    let field : length f ≡ 16 = length-field B v s dir low in
-    let formed : T (used v s) = ⊎-elim (λ t. absurd (T-not (free v s) (st .file .taken) t)) (λ t. t) (ok .sound .formed s low) in
-    let k = used-means B v s dir low .0 formed .1 in
-    let e : take (k .0) f ≡ nm = sym (name-means B v s dir low (k .0) (k .1)) ∙ st .named in
-    let l : length (take (k .0) f) ≡ k .0 = length-take-le (k .0) f (omega (arith, field, k .1 .short)) in
-    subst NameRule e
-    (omega (arith, l, k .1 .some), (omega (arith, l, k .1 .short), λ i h z. k .1 .bytes i (omega arith) (sym (getD-take (k .0) f i 0 (omega arith)) ∙ z)))
+    let e : List ℕ = slot (view B img .dir) s in
+    let formed : T (used (view B img) s) = ⊎-elim (λ t. absurd (T-not (free (view B img) s) (st .file .taken) t)) (λ t. t) (ok .sound .formed s (st .file .slot)) in
+    subst NameRule (st .named) (used-named e (view B img .n) formed, (omega (arith, used-short e (view B img .n) formed), name-whole e))
 
 -- so a remove of it is granted
 pub stands-removed : (B : ℕ) → BlockSize B → (img : List ℕ) → Consistent B img → (nm : List ℕ) (s : ℕ) → Stands B (view B img) nm s → T (granted (remove B img nm .answer))

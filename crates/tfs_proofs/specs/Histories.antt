@@ -197,8 +197,8 @@ history-law B sz img =
     record {
       consistent = λ ok xs. all-consistent B sz xs img ok;
       stands = λ xs nm. all-stands B sz nm xs img;
-      reads = λ ok xs nm named o buf.
-          (read-by B sz (afterAll B img xs) (all-consistent B sz xs img ok) nm named o buf ∙ ap (λ (c : Option (List ℕ)). readBy c (afterAll B img xs) o buf) (all-stands B sz nm xs img));
+      reads = λ xs ok nm named o buf.
+          (read-by B sz (afterAll B img xs) ok nm named o buf ∙ ap (λ (c : Option (List ℕ)). readBy c (afterAll B img xs) o buf) (all-stands B sz nm xs img));
       ended = gone B sz img;
       created = born B sz img;
     }

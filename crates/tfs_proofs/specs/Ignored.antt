@@ -1,26 +1,27 @@
--- What the rules ignore has no say: the rest of block 0, map bits from N on, the bytes of block 2 behind the slots, the bytes past the last block.
+-- What the rules ignore has no say: the rest of block 0, map bits from N on, leftovers in slots, the bytes of block 2 behind the slots, the bytes past the last block.
 use mathlib.Core.Path.{_≡_, refl, sym, ap, ap₂, _∙_, subst, subst₂}
 use mathlib.Core.Bool.{Bool, not, cond, _&&_, _||_, Bool·beq}
 use Prim.Native.Nat.{ℕ, zero, suc, _+_, _-_, _*_, _/_, _%_, _≤_, _<_, min}
 use mathlib.Core.List.{List, [], _∷_, _++_}
 use native.Mathlib.Omega.{arith}
 use native.Mathlib.Nat.{zero-add}
-use lib.ListN.{length, getD, take, drop, length-take, length-drop}
+use lib.ListN.{length, getD, take, drop}
 use lib.Dec.{leb, ltb, eqb, leb→le, ltb→lt}
 use Rattle.list_laws.specs.Test.{by-test, cond-yes, cond-no, and-l, and-r}
-use Rattle.lists.specs.Lists.{least, sum, firstZero, table, word, part}
+use Rattle.lists.specs.Lists.{least, sum, firstZero, table, word}
 use Rattle.list_laws.specs.Least.{least-cong}
 use Rattle.list_laws.specs.Sum.{sum-cong}
 use Rattle.list_laws.specs.Table.{table-cong}
 use Rattle.list_laws.specs.Word.{word-cong}
-use Rattle.list_laws.specs.Part.{getD-part, part-ext}
-use Rattle.tfs_spec.specs.Layout.{BlockSize, slots, numbers, maxSize, need, blocks, block, slot, slotInode, slotName, slotFree, slotUsed, inRange, sameName, mapBit, magic, volumeName, nameAllowed, inodeSize, inodeNumber, View, view, viewN, inodeAt, free, used, inode, name, size, number, slotOf, freeSlot, place, freeBlocks}
+use Rattle.list_laws.specs.Part.{part-long, getD-part, part-ext}
+use Rattle.tfs_spec.specs.Layout.{BlockSize, slots, numbers, maxSize, need, blocks, block, slot, slotInode, slotUsed, inRange, sameName, mapBit, magic, volumeName, nameAllowed, inodeSize, inodeNumber, View, view, viewN, inodeAt, free, used, inode, name, size, number, slotOf, freeSlot, place, freeBlocks}
 use Rattle.tfs_spec.specs.Check.{Verdict, consistent, broken, found, tooShort, badMagic, badLabel, repeats, badSlot, badNumber, badInode, fileClaims, claimsTo, claims, claimedTwice, badBit, checkView, check, times}
 use Rattle.tfs_spec.specs.Requests.{Answer, value, refused, unused, file, granted, checked, Outcome, readBuffer, Lookup, inSlot, denied, lookup, looked, freeFrom, chosen, createView, create, removeView, remove, counted, transferAnswer, read, write, listView, listAnswer, freeAnswer, refuse}
-use Rattle.tfs_facts.specs.Views.{view-n, view-head, view-map, view-dir}
+use Rattle.tfs_facts.specs.Views.{view-n, view-head, view-map}
 use Rattle.tfs_spec.specs.Consistent.{Inside, Sound}
 use Rattle.tfs_spec.specs.Effects.{SameRead}
 use Rattle.tfs_facts.specs.CheckMeans.{check-means}
+use Rattle.tfs_facts.specs.Slots.{same-free, same-used}
 use Rattle.tfs_facts.specs.Sizes.{in-block}
 use Rattle.tfs_proofs.specs.Places.{blocks-eq, position}
 use Rattle.tfs_proofs.specs.Transfers.{slotGiven, slotFor, transferView, filled, read-as, write-as}
@@ -32,7 +33,8 @@ pub record Alike (B : ℕ) (v w : View) : Type 0 where
   pub magic-word : word (v .head) 0 ≡ word (w .head) 0
   pub label : volumeName (v .head) ≡ volumeName (w .head)
   pub bits : (i : ℕ) → i < v .n → mapBit (v .map) i ≡ mapBit (w .map) i
-  pub slot-same : (t : ℕ) → t < slots B → slot (v .dir) t ≡ slot (w .dir) t
+  pub inode-same : (t : ℕ) → t < slots B → inode v t ≡ inode w t
+  pub name-same : (t : ℕ) → t < slots B → name v t ≡ name w t
   pub inodes : v .inodes ≡ w .inodes
 
 module _ (B : ℕ) (v w : View) (al : Alike B v w) where
@@ -45,21 +47,19 @@ module _ (B : ℕ) (v w : View) (al : Alike B v w) where
   number-alike s k = ap (λ (x : List (List ℕ)). inodeNumber (getD x s []) k) (al .inodes)
 
   module _ (t : ℕ) (h : t < slots B) where
-    free-alike : free v t ≡ free w t
-    unfolding free
-    free-alike = ap slotFree (al .slot-same t h)
-
-    used-alike : used v t ≡ used w t
-    unfolding used
-    used-alike = ap₂ slotUsed (al .n) (al .slot-same t h)
-
     pub inode-alike : inode v t ≡ inode w t
-    unfolding inode
-    inode-alike = ap slotInode (al .slot-same t h)
+    inode-alike = al .inode-same t h
 
     name-alike : name v t ≡ name w t
-    unfolding name
-    name-alike = ap slotName (al .slot-same t h)
+    name-alike = al .name-same t h
+
+    free-alike : free v t ≡ free w t
+    unfolding free inode name
+    free-alike = same-free (slot (v .dir) t) (slot (w .dir) t) inode-alike name-alike
+
+    used-alike : used v t ≡ used w t
+    unfolding used inode name
+    used-alike = ap (λ (n : ℕ). slotUsed n (slot (v .dir) t)) (al .n) ∙ same-used (slot (v .dir) t) (slot (w .dir) t) inode-alike name-alike (w .n)
 
   repeats-alike : (s : ℕ) → s < slots B → repeats v s ≡ repeats w s
   unfolding repeats
@@ -185,21 +185,18 @@ module _ (B : ℕ) (v w : View) (al : Alike B v w) where
 
 -- ---- images
 module _ (B : ℕ) (size-ok : BlockSize B) (a b : List ℕ) (same : SameRead B a b) where
-  length-alike : (i : ℕ) → length (block B a i) ≡ length (block B b i)
-  unfolding block part
-  length-alike i =
-      length-take B (drop (i * B) a)
-      ∙ ap (min B) (length-drop (i * B) a ∙ ap (λ (n : ℕ). n - i * B) (same .long) ∙ sym (length-drop (i * B) b))
-      ∙ sym (length-take B (drop (i * B) b))
+  length-alike : length (block B a 0) ≡ length (block B b 0)
+  unfolding block
+  length-alike = part-long (0 * B) B a b (same .long)
 
   n-alike : blocks B a ≡ blocks B b
   n-alike = blocks-eq B a b (same .long)
 
   inode-at-alike : (s : ℕ) → s < slots B → inodeAt B (blocks B a) a s ≡ inodeAt B (blocks B b) b s
-  unfolding inodeAt
+  unfolding inodeAt inode view viewN
   inode-at-alike s h =
       let i : ℕ = slotInode (slot (block B b 2) s) in
-      ap₂ (λ (m : ℕ) (x : List ℕ). cond (inRange m (slotInode x)) (block B a (slotInode x)) []) n-alike (same .slots-same s h)
+      ap₂ (λ (m j : ℕ). cond (inRange m j) (block B a j) []) n-alike (same .slots-same s h .0)
       ∙ by-test (inRange (blocks B b) i)
       (λ t.
       ap (λ (x : List ℕ). cond (inRange (blocks B b) i) x [])
@@ -222,8 +219,8 @@ module _ (B : ℕ) (size-ok : BlockSize B) (a b : List ℕ) (same : SameRead B a
         label = ap volumeName (view-head B a) ∙ label-same ∙ ap volumeName (sym (view-head B b));
         bits = λ i h.
             (ap (λ (x : List ℕ). mapBit x i) (view-map B a) ∙ same .bits i (subst (λ (n : ℕ). i < n) (view-n B a) h) ∙ ap (λ (x : List ℕ). mapBit x i) (sym (view-map B b)));
-        slot-same = λ t h.
-            (ap (λ (x : List ℕ). slot x t) (view-dir B a) ∙ same .slots-same t h ∙ ap (λ (x : List ℕ). slot x t) (sym (view-dir B b)));
+        inode-same = λ t h. same .slots-same t h .0;
+        name-same = λ t h. same .slots-same t h .1;
         inodes = inodes-same;
       }
     where
@@ -237,7 +234,7 @@ module _ (B : ℕ) (size-ok : BlockSize B) (a b : List ℕ) (same : SameRead B a
 
       label-same : volumeName (block B a 0) ≡ volumeName (block B b 0)
       label-same =
-          part-ext 4 16 (block B a 0) (block B b 0) (length-alike 0) (λ i h. head-byte (4 + i) (omega arith))
+          part-ext 4 16 (block B a 0) (block B b 0) length-alike (λ i h. head-byte (4 + i) (omega arith))
 
 check-of : (B : ℕ) (a b : List ℕ) → length a ≡ length b → checkView B (view B a) ≡ checkView B (view B b) → check B a ≡ check B b
 unfolding check tooShort

@@ -1,5 +1,5 @@
 -- Two images that differ at most in what the rules ignore differ in no more after any request, nor after any number of them.
-use mathlib.Core.Path.{_≡_, sym, ap, _∙_, subst, subst₂}
+use mathlib.Core.Path.{_≡_, refl, sym, ap, _∙_, subst, subst₂}
 use mathlib.Core.Logic.{_≢_, _⊎_, inl, inr, ⊎-elim}
 use mathlib.Core.Bool.{not}
 use Prim.Native.Nat.{ℕ, zero, suc, _+_, _-_, _*_, _/_, _%_, _≤_, _<_}
@@ -14,23 +14,22 @@ use lib.Dec.{T, ltb}
 use Rattle.list_laws.specs.Test.{by-test}
 use Rattle.lists.specs.Lists.{storeAt, part, In}
 use Rattle.list_laws.specs.Part.{part-ext}
-use Rattle.tfs_spec.specs.Layout.{BlockSize, slots, need, blocks, block, slot, mapBit, View, view, size, slotOf, freeSlot, place}
+use Rattle.tfs_spec.specs.Layout.{BlockSize, slots, need, blocks, block, slot, mapBit, View, view, inode, size, slotOf, freeSlot, place}
 use Rattle.tfs_spec.specs.Check.{check, consistent, fileClaims, tooShort}
 use Rattle.tfs_spec.specs.Consistent.{File, Consistent}
 use Rattle.tfs_facts.specs.CheckMeans.{check-means}
 use Rattle.tfs_spec.specs.Requests.{Answer, granted, format, chosen, create, remove, write, Change, creates, removes, writes, perform, changes, checks, reads, lists, counts, Operation, formats, requests, operate, afterAll}
-use Rattle.tfs_facts.specs.Sizes.{apart-blocks}
 use Rattle.tfs_facts.specs.Views.{view-head, view-map, view-dir}
-use Rattle.tfs_facts.specs.Stores.{length-block, block-byte}
+use Rattle.tfs_facts.specs.Stores.{block-byte}
 use Rattle.tfs_facts.specs.MapBits.{in-dec, in-at}
+use Rattle.tfs_proofs.specs.SlotBytes.{slot-ext, slot-kept, dir-long, same-slot}
 use Rattle.tfs_proofs.specs.Writes.{step}
 use Rattle.tfs_proofs.specs.Transfers.{slotFor, read-image}
 use Rattle.tfs_proofs.specs.Places.{filesOf, blocks-eq}
 use Rattle.tfs_proofs.specs.WriteLists.{wr, putOf, request-image, request-view, request-length}
 use Rattle.tfs_spec.specs.Laws.{request}
-use Rattle.tfs_proofs.specs.Removes.{low-inside}
 use Rattle.tfs_proofs.specs.Changes.{refused-keeps, remove-granted}
-use Rattle.tfs_spec.specs.Effects.{Kept, SameRead, BlockOf, RemoveTouch, CreateTouch}
+use Rattle.tfs_spec.specs.Effects.{Kept, SameBytes, SameSlot, SameRead, BlockOf, RemoveTouch, CreateTouch}
 use Rattle.tfs_proofs.specs.Kept.{create-kept, remove-kept, granted-passed}
 use Rattle.tfs_proofs.specs.Ignored.{Alike, alike, size-alike, number-alike, inode-alike, slot-of-alike, slot-for-alike, free-slot-alike, chosen-alike, ignored}
 use Rattle.tfs_proofs.specs.Formats.{format-refused, format-past, format-length, format-head, format-map, format-directory}
@@ -57,24 +56,44 @@ store-same at [] a b o q l e = e
 store-same at (x ∷ bs) a b o q l e =
     store-same at bs (set a (at o) x) (set b (at o) x) (suc o) q (length-set a (at o) x ∙ l ∙ sym (length-set b (at o) x)) (set-same a b (at o) x q l e)
 
--- ---- blocks and slots of which each byte is the same
-block-ext : (B : ℕ) (x y : List ℕ) (i : ℕ) → length x ≡ length y → ((r : ℕ) → r < B → getD x (i * B + r) 0 ≡ getD y (i * B + r) 0) → block B x i ≡ block B y i
+-- ---- a block of which each byte is the same
+pub block-ext : (B : ℕ) (x y : List ℕ) (i : ℕ) → length x ≡ length y → ((r : ℕ) → r < B → getD x (i * B + r) 0 ≡ getD y (i * B + r) 0) → block B x i ≡ block B y i
 unfolding block
 block-ext B x y i l h = part-ext (i * B) B x y l h
 
-slot-ext : (t : ℕ) (x y : List ℕ) → length x ≡ length y → ((i : ℕ) → i < 20 → getD x (t * 20 + i) 0 ≡ getD y (t * 20 + i) 0) → slot x t ≡ slot y t
-unfolding slot
-slot-ext t x y l h = part-ext (t * 20) 20 x y l h
+-- ---- what becomes of two images
+-- slot t is set alike in both, or stays in both
+abbrev Fate : ℕ → List ℕ → List ℕ → List ℕ → List ℕ → ℕ → Type 0
+Fate B a b na nb t = SameBytes B na nb t ⊎ (SameBytes B na a t × SameBytes B nb b t)
 
-slot-kept : (s t : ℕ) (x y : List ℕ) → length x ≡ length y → t ≢ s → ((i : ℕ) → (i < s * 20) ⊎ (s * 20 + 20 ≤ i) → getD x i 0 ≡ getD y i 0) → slot x t ≡ slot y t
-slot-kept s t x y l d h =
-    slot-ext t x y l
-    (λ i k. h (t * 20 + i) (⊎-elim (λ e. inl (omega arith)) (λ e. inr (omega arith)) (apart-blocks 20 s t (λ e. d (sym e)))))
+-- SameRead of the images na and nb that were a and b, with what became of each slot
+record After (B : ℕ) (a b na nb : List ℕ) : Type 0 where
+  long : length na ≡ length nb
+  head : part 0 20 (block B na 0) ≡ part 0 20 (block B nb 0)
+  bits : (i : ℕ) → i < blocks B na → mapBit (block B na 1) i ≡ mapBit (block B nb 1) i
+  fate : (t : ℕ) → t < slots B → Fate B a b na nb t
+  rest : (i : ℕ) → 3 ≤ i → i < blocks B na → block B na i ≡ block B nb i
 
--- an image that a request leaves has a directory as long as before
-dir-long : (B : ℕ) (x y : List ℕ) → 3 * B ≤ length y → length x ≡ length y → length (block B x 2) ≡ length (block B y 2)
-dir-long B x y h l =
-    length-block B x 2 (low-inside B x (omega arith) 2 (omega arith)) ∙ sym (length-block B y 2 (low-inside B y h 2 (omega arith)))
+-- slots with the same bytes still have the same bytes, slots with one inode number and one name still have one
+fate-bytes : (B : ℕ) (a b na nb : List ℕ) (t : ℕ) → Fate B a b na nb t → SameBytes B a b t → SameBytes B na nb t
+fate-bytes B a b na nb t (inl e) s = e
+fate-bytes B a b na nb t (inr k) s = k .0 ∙ s ∙ sym (k .1)
+
+fate-slot : (B : ℕ) (a b na nb : List ℕ) (t : ℕ) → Fate B a b na nb t → SameSlot B a b t → SameSlot B na nb t
+fate-slot B a b na nb t (inl e) s = same-slot B na nb t e
+fate-slot B a b na nb t (inr k) s =
+    let x : SameSlot B na a t = same-slot B na a t (k .0) in
+    let y : SameSlot B nb b t = same-slot B nb b t (k .1) in
+    (x .0 ∙ s .0 ∙ sym (y .0), x .1 ∙ s .1 ∙ sym (y .1))
+
+read-after : (B : ℕ) (a b na nb : List ℕ) → SameRead B a b → After B a b na nb → SameRead B na nb
+read-after B a b na nb same r = record {
+  long = r .long;
+  head = r .head;
+  bits = r .bits;
+  slots-same = λ t l. fate-slot B a b na nb t (r .fate t l) (same .slots-same t l);
+  rest = r .rest;
+}
 
 -- ---- two images that are alike
 module _ (B : ℕ) (sz : BlockSize B) (a b : List ℕ) (same : SameRead B a b) (oka : Consistent B a) (okb : Consistent B b) where
@@ -104,11 +123,11 @@ module _ (B : ℕ) (sz : BlockSize B) (a b : List ℕ) (same : SameRead B a b) (
     bit-after : (i : ℕ) → i < blocks B na → mapBit (block B na 1) i ≡ mapBit (block B a 1) i → mapBit (block B nb 1) i ≡ mapBit (block B b 1) i → mapBit (block B na 1) i ≡ mapBit (block B nb 1) i
     bit-after i h p q = p ∙ same .bits i (low i h) ∙ sym q
 
-    slot-after : (s t : ℕ) → t < slots B → t ≢ s → ((i : ℕ) → (i < s * 20) ⊎ (s * 20 + 20 ≤ i) → getD (block B na 2) i 0 ≡ getD (block B a 2) i 0) → ((i : ℕ) → (i < s * 20) ⊎ (s * 20 + 20 ≤ i) → getD (block B nb 2) i 0 ≡ getD (block B b 2) i 0) → slot (block B na 2) t ≡ slot (block B nb 2) t
-    slot-after s t h d p q =
-        slot-kept s t (block B na 2) (block B a 2) (dir-long B na a (oka .long) la) d p
-        ∙ same .slots-same t h
-        ∙ sym (slot-kept s t (block B nb 2) (block B b 2) (dir-long B nb b (okb .long) lb) d q)
+    slot-after : (s t : ℕ) → t < slots B → t ≢ s → ((i : ℕ) → (i < s * 20) ⊎ (s * 20 + 20 ≤ i) → getD (block B na 2) i 0 ≡ getD (block B a 2) i 0) → ((i : ℕ) → (i < s * 20) ⊎ (s * 20 + 20 ≤ i) → getD (block B nb 2) i 0 ≡ getD (block B b 2) i 0) → Fate B a b na nb t
+    slot-after s t h d p q = inr (
+      slot-kept s t (block B na 2) (block B a 2) (dir-long B na a (oka .long) la) d p,
+      slot-kept s t (block B nb 2) (block B b 2) (dir-long B nb b (okb .long) lb) d q,
+    )
 
     block-after : (i : ℕ) → 3 ≤ i → i < blocks B na → ((r : ℕ) → r < B → getD na (i * B + r) 0 ≡ getD a (i * B + r) 0) → ((r : ℕ) → r < B → getD nb (i * B + r) 0 ≡ getD b (i * B + r) 0) → block B na i ≡ block B nb i
     block-after i h m p q = block-ext B na a i la p ∙ same .rest i h (low i m) ∙ sym (block-ext B nb b i lb q)
@@ -117,16 +136,16 @@ module _ (B : ℕ) (sz : BlockSize B) (a b : List ℕ) (same : SameRead B a b) (
     past i r h = omega (arith, mul-le-mul-right {m = 3} {n = i} B h)
 
     -- create
-    create-alike : (nm : List ℕ) (z h s : ℕ) (cs : List ℕ) → CreateTouch B a na nm z h s cs → CreateTouch B b nb nm z h s cs → SameRead B na nb
+    create-alike : (nm : List ℕ) (z h s : ℕ) (cs : List ℕ) → CreateTouch B a na nm z h s cs → CreateTouch B b nb nm z h s cs → After B a b na nb
     create-alike nm z h s cs ta tb =
         record {
           long = long-after;
           head = head-after;
           bits = λ i l.
               elim (in-dec i cs) [ yes p ↦ ta .marked i p ∙ sym (tb .marked i p) | no d ↦ bit-after i l (ta .bits i d) (tb .bits i d) ];
-          slots-same = λ t l.
+          fate = λ t l.
               elim (ℕ-discrete t s) [
-                | yes e ↦ subst (λ (x : ℕ). slot (block B na 2) x ≡ slot (block B nb 2) x) (sym e) (ta .entry ∙ sym (tb .entry))
+                | yes e ↦ inl (subst (SameBytes B na nb) (sym e) (ta .entry ∙ sym (tb .entry)))
                 | no d ↦ slot-after s t l d (ta .entries) (tb .entries)
               ];
           rest = λ i l m.
@@ -146,7 +165,7 @@ module _ (B : ℕ) (sz : BlockSize B) (a b : List ℕ) (same : SameRead B a b) (
             ta .zeroed m l ∙ sym (tb .zeroed m l)
 
     -- remove
-    remove-alike : (s : ℕ) → File B v s → ((i : ℕ) → BlockOf B v s i → BlockOf B w s i) → ((i : ℕ) → BlockOf B w s i → BlockOf B v s i) → RemoveTouch B a na s → RemoveTouch B b nb s → SameRead B na nb
+    remove-alike : (s : ℕ) → File B v s → ((i : ℕ) → BlockOf B v s i → BlockOf B w s i) → ((i : ℕ) → BlockOf B w s i → BlockOf B v s i) → RemoveTouch B a na s → RemoveTouch B b nb s → After B a b na nb
     remove-alike s f to from ta tb =
         record {
           long = long-after;
@@ -156,9 +175,9 @@ module _ (B : ℕ) (sz : BlockSize B) (a b : List ℕ) (same : SameRead B a b) (
                 | yes p ↦ (let o : BlockOf B v s i = claimed-block B v s i f p in ta .cleared i o ∙ sym (tb .cleared i (to i o)))
                 | no d ↦ bit-after i l (ta .bits i (λ o. d (block-claimed B v s i f o))) (tb .bits i (λ o. d (block-claimed B v s i f (from i o))))
               ];
-          slots-same = λ t l.
+          fate = λ t l.
               elim (ℕ-discrete t s) [
-                | yes e ↦ subst (λ (x : ℕ). slot (block B na 2) x ≡ slot (block B nb 2) x) (sym e) zeroed
+                | yes e ↦ inl (subst (SameBytes B na nb) (sym e) zeroed)
                 | no d ↦ slot-after s t l d (ta .entries) (tb .entries)
               ];
           rest = λ i l m. block-after i l m (λ r k. ta .bytes (i * B + r) (inr (past i r l))) (λ r k. tb .bytes (i * B + r) (inr (past i r l)));
@@ -171,7 +190,7 @@ module _ (B : ℕ) (sz : BlockSize B) (a b : List ℕ) (same : SameRead B a b) (
             (λ i k. ta .zeroed i k ∙ sym (tb .zeroed i k))
 
   -- a granted create
-  created-alike : (nm : List ℕ) (z : ℕ) → T (granted (create B a nm z .answer)) → T (granted (create B b nm z .answer)) → SameRead B (create B a nm z .image) (create B b nm z .image)
+  created-alike : (nm : List ℕ) (z : ℕ) → T (granted (create B a nm z .answer)) → T (granted (create B b nm z .answer)) → After B a b (create B a nm z .image) (create B b nm z .image)
   created-alike nm z ga gb =
       let ta = created-touch B sz a oka nm z ga in
       let tb = created-touch B sz b okb nm z gb in
@@ -179,7 +198,7 @@ module _ (B : ℕ) (sz : BlockSize B) (a b : List ℕ) (same : SameRead B a b) (
       (subst₂ (λ (s : ℕ) (cs : List ℕ). CreateTouch B b (create B b nm z .image) nm z (getD cs 0 0) s cs) (sym (free-slot-alike B v w al)) (sym (chosen-alike B v w al z)) tb)
 
   -- a granted remove
-  removed-alike : (nm : List ℕ) → T (granted (remove B a nm .answer)) → T (granted (remove B b nm .answer)) → SameRead B (remove B a nm .image) (remove B b nm .image)
+  removed-alike : (nm : List ℕ) → T (granted (remove B a nm .answer)) → T (granted (remove B b nm .answer)) → After B a b (remove B a nm .image) (remove B b nm .image)
   removed-alike nm ga gb =
       remove-alike (remove B a nm .image) (remove B b nm .image) (ta .long) (tb .long) (remove-kept sz a nm) (remove-kept sz b nm) s (sta .file) to from ta tb
     where
@@ -218,7 +237,7 @@ module _ (B : ℕ) (sz : BlockSize B) (a b : List ℕ) (same : SameRead B a b) (
       storeAt (λ p. number-alike B v w al (slot-for-alike B v w al nm i) (p / B) i * B + p % B) x o
       (take (size-alike B v w al (slot-for-alike B v w al nm i) i - o) bs)
 
-  written-alike : (nm : List ℕ) (o : ℕ) (bs : List ℕ) → SameRead B (write B a nm o bs .image) (write B b nm o bs .image)
+  written-alike : (nm : List ℕ) (o : ℕ) (bs : List ℕ) → After B a b (write B a nm o bs .image) (write B b nm o bs .image)
   unfolding request putOf
   written-alike nm o bs =
       record {
@@ -228,10 +247,8 @@ module _ (B : ℕ) (sz : BlockSize B) (a b : List ℕ) (same : SameRead B a b) (
             (ap (λ (m : List ℕ). mapBit m i) (sym (view-map B na) ∙ ap (λ (x : View). x .map) va ∙ view-map B a)
             ∙ same .bits i (subst (λ (n : ℕ). i < n) (blocks-eq B na a la) l)
             ∙ sym (ap (λ (m : List ℕ). mapBit m i) (sym (view-map B nb) ∙ ap (λ (x : View). x .map) vb ∙ view-map B b)));
-        slots-same = λ t l.
-            (ap (λ (d : List ℕ). slot d t) (sym (view-dir B na) ∙ ap (λ (x : View). x .dir) va ∙ view-dir B a)
-            ∙ same .slots-same t l
-            ∙ sym (ap (λ (d : List ℕ). slot d t) (sym (view-dir B nb) ∙ ap (λ (x : View). x .dir) vb ∙ view-dir B b)));
+        fate = λ t l.
+            inr (ap (λ (d : List ℕ). slot d t) (sym (view-dir B na) ∙ ap (λ (x : View). x .dir) va ∙ view-dir B a), ap (λ (d : List ℕ). slot d t) (sym (view-dir B nb) ∙ ap (λ (x : View). x .dir) vb ∙ view-dir B b));
         rest = λ i l m.
             block-ext B na nb i (la ∙ same .long ∙ sym lb)
             (λ r k.
@@ -273,14 +290,17 @@ module _ (B : ℕ) (sz : BlockSize B) (a b : List ℕ) (same : SameRead B a b) w
   answer-same (removes nm) = ignored B sz a b same .remove-same nm
   answer-same (writes nm o bs) = ignored B sz a b same .write-same nm o bs
 
-  granted-alike : (c : Change) → Consistent B a → Consistent B b → T (granted (perform B a c .answer)) → T (granted (perform B b c .answer)) → SameRead B (perform B a c .image) (perform B b c .image)
+  granted-alike : (c : Change) → Consistent B a → Consistent B b → T (granted (perform B a c .answer)) → T (granted (perform B b c .answer)) → After B a b (perform B a c .image) (perform B b c .image)
   unfolding perform
   granted-alike (creates nm z) oka okb ga gb = created-alike B sz a b same oka okb nm z ga gb
   granted-alike (removes nm) oka okb ga gb = removed-alike B sz a b same oka okb nm ga gb
   granted-alike (writes nm o bs) oka okb ga gb = written-alike B sz a b same oka okb nm o bs
 
   -- the images that it leaves differ at most in what the rules ignore
-  same-after : (c : Change) → SameRead B (perform B a c .image) (perform B b c .image)
+  stay : After B a b a b
+  stay = record { long = same .long; head = same .head; bits = same .bits; fate = λ t l. inr (refl, refl); rest = same .rest }
+
+  same-after : (c : Change) → After B a b (perform B a c .image) (perform B b c .image)
   same-after c =
       by-test (granted (perform B a c .answer))
       (λ ga.
@@ -288,18 +308,18 @@ module _ (B : ℕ) (sz : BlockSize B) (a b : List ℕ) (same : SameRead B a b) w
       granted-alike c (check-means B sz a .0 (granted-passed B a c ga)) (check-means B sz b .0 (granted-passed B b c gb)) ga gb)
       (λ ra.
       let rb = subst (λ (x : Answer). T (not (granted x))) (answer-same c) ra in
-      subst₂ (SameRead B) (sym (refused-keeps B a c ra)) (sym (refused-keeps B b c rb)) same)
+      subst₂ (After B a b) (sym (refused-keeps B a c ra)) (sym (refused-keeps B b c rb)) stay)
 
   -- nor do those that a format leaves
-  format-after : (label : List ℕ) → SameRead B (format B a label .image) (format B b label .image)
+  format-after : (label : List ℕ) → After B a b (format B a label .image) (format B b label .image)
   unfolding tooShort
   format-after label =
-      by-test (granted (format B a label .answer)) formatted (λ ra. subst₂ (SameRead B) (sym (format-refused B a label ra)) (sym (format-refused B b label (subst (λ (x : Answer). T (not (granted x))) answers ra))) same)
+      by-test (granted (format B a label .answer)) formatted (λ ra. subst₂ (After B a b) (sym (format-refused B a label ra)) (sym (format-refused B b label (subst (λ (x : Answer). T (not (granted x))) answers ra))) stay)
     where
       answers : format B a label .answer ≡ format B b label .answer
       answers = format-answer B a b label (ap (λ (n : ℕ). ltb n (3 * B)) (same .long))
 
-      formatted : T (granted (format B a label .answer)) → SameRead B (format B a label .image) (format B b label .image)
+      formatted : T (granted (format B a label .answer)) → After B a b (format B a label .image) (format B b label .image)
       formatted ga =
           let gb : T (granted (format B b label .answer)) = subst (λ (x : Answer). T (granted x)) answers ga in
           let la : length (format B a label .image) ≡ length a = format-length sz a label in
@@ -308,7 +328,7 @@ module _ (B : ℕ) (sz : BlockSize B) (a b : List ℕ) (same : SameRead B a b) w
             long = long;
             head = ap (part 0 20) (format-head sz a label ga ∙ sym (format-head sz b label gb));
             bits = λ i l. ap (λ (m : List ℕ). mapBit m i) (format-map sz a label ga ∙ sym (format-map sz b label gb));
-            slots-same = λ t l. ap (λ (d : List ℕ). slot d t) (format-directory sz a label ga ∙ sym (format-directory sz b label gb));
+            fate = λ t l. inl (ap (λ (d : List ℕ). slot d t) (format-directory sz a label ga ∙ sym (format-directory sz b label gb)));
             rest = λ i l m.
                 block-ext B (format B a label .image) (format B b label .image) i long
                 (λ r k.
@@ -318,16 +338,27 @@ module _ (B : ℕ) (sz : BlockSize B) (a b : List ℕ) (same : SameRead B a b) w
                 ∙ sym (format-past sz b label (i * B + r) past));
           }
 
-  pub same-after-any : (x : Operation) → SameRead B (operate B a x .image) (operate B b x .image)
-  same-after-any (formats label) = format-after label
-  same-after-any (requests (changes c)) = same-after c
-  same-after-any (requests checks) = same
-  same-after-any (requests (reads nm o buf)) = subst₂ (SameRead B) (sym (read-image B a nm o buf)) (sym (read-image B b nm o buf)) same
-  same-after-any (requests (lists s)) = same
-  same-after-any (requests counts) = same
+  after-any : (x : Operation) → After B a b (operate B a x .image) (operate B b x .image)
+  after-any (formats label) = format-after label
+  after-any (requests (changes c)) = same-after c
+  after-any (requests checks) = stay
+  after-any (requests (reads nm o buf)) = subst₂ (After B a b) (sym (read-image B a nm o buf)) (sym (read-image B b nm o buf)) stay
+  after-any (requests (lists s)) = stay
+  after-any (requests counts) = stay
+
+  same-after-any : (x : Operation) → SameRead B (operate B a x .image) (operate B b x .image)
+  same-after-any x = read-after B a b (operate B a x .image) (operate B b x .image) same (after-any x)
 
 -- ---- any number of requests
 pub same-after-all : (B : ℕ) → BlockSize B → (a b : List ℕ) → SameRead B a b → (xs : List Operation) → SameRead B (afterAll B a xs) (afterAll B b xs)
 unfolding afterAll
 same-after-all B sz a b same [] = same
 same-after-all B sz a b same (x ∷ xs) = same-after-all B sz (operate B a x .image) (operate B b x .image) (same-after-any B sz a b same x) xs
+
+pub bytes-after-all : (B : ℕ) → BlockSize B → (a b : List ℕ) → SameRead B a b → (t : ℕ) → t < slots B → SameBytes B a b t → (xs : List Operation) → SameBytes B (afterAll B a xs) (afterAll B b xs) t
+unfolding afterAll
+bytes-after-all B sz a b same t l e [] = e
+bytes-after-all B sz a b same t l e (x ∷ xs) =
+    let na : List ℕ = operate B a x .image in
+    let nb : List ℕ = operate B b x .image in
+    bytes-after-all B sz na nb (same-after-any B sz a b same x) t l (fate-bytes B a b na nb t (after-any B sz a b same x .fate t l) e) xs

@@ -12,7 +12,7 @@ use Rattle.tfs_spec.specs.Layout.{BlockSize, slots, mapBit, sameName, View, vie
 use Rattle.tfs_spec.specs.Check.{Verdict, consistent, broken, check}
 use Rattle.tfs_spec.specs.Consistent.{File, inodeOf, Consistent, FirstBroken}
 use Rattle.tfs_spec.specs.Requests.{Answer, value, file, refused, granted, Outcome, checked, storeAll, format, createStores, create, removeStores, remove, write, listAnswer, creates, removes, writes, perform, changes, checks, reads, lists, counts, Operation, formats, requests, operate, afterAll}
-use Rattle.tfs_spec.specs.Answers.{CreateRule, unnamed, oversized, standing, full, cramped, created, ListRule, outside, vacant, holds}
+use Rattle.tfs_spec.specs.Answers.{Stands, CreateRule, unnamed, oversized, standing, full, cramped, created, ListRule, outside, vacant, holds}
 use Rattle.tfs_spec.specs.Histories.{Never, EndsName, removed, formatted, ShowsNone, GivesNumber, given, InodeLaws}
 use Rattle.tfs_spec.specs.Laws.{request}
 use Rattle.tfs_facts.specs.Claims.{slotIn}
@@ -26,7 +26,7 @@ use Rattle.tfs_proofs.specs.Removes as gone
 use Rattle.tfs_proofs.specs.Changes.{create-granted, create-image, create-number, remove-granted, remove-image, refused-keeps}
 use Rattle.tfs_proofs.specs.Formats.{format-refused, format-consistent, format-free}
 use Rattle.tfs_proofs.specs.Transfers.{read-image}
-use Rattle.tfs_proofs.specs.Grants.{rule-reply, create-answers}
+use Rattle.tfs_proofs.specs.Grants.{rule-reply, create-answers, stands-named}
 use Rattle.tfs_proofs.specs.Histories.{any-consistent, granted-consistent}
 use Rattle.tfs_proofs.specs.Replies.{fault-reply}
 
@@ -261,6 +261,11 @@ inode-law B sz img =
     record {
       created = λ nm z h e. answered B sz img (granted-consistent B sz img (creates nm z) (grants nm z h e)) nm z h e;
       fresh = new-number B sz img;
+      listed = λ s z h nm e.
+          let ok : Consistent B img = shown-consistent B sz img s nm h z e in
+          let a : Shown B (view B img) s nm h z = shown B sz img ok s nm h z .0 e in
+          let st : Stands B (view B img) nm s = record { file = a .file; named = a .named } in
+          (stands-named B img ok nm s st, st, a .sized);
       apart = λ s t y z h nm k e f.
           let ok : Consistent B img = shown-consistent B sz img s nm h y e in
           let a : Shown B (view B img) s nm h y = shown B sz img ok s nm h y .0 e in

@@ -11,6 +11,7 @@ pub mod Creates
 pub mod WriteContents
 pub mod Changes
 pub mod Orders
+pub mod SlotBytes
 pub mod CreateRemove
 pub mod Formats
 pub mod Reads
@@ -22,6 +23,7 @@ pub mod Answers
 pub mod Touches
 pub mod Rooms
 pub mod IgnoredSteps
+pub mod Leftovers
 pub mod Offsets
 pub mod Histories
 pub mod Inodes

@@ -1,6 +1,6 @@
 -- The layout in raw offsets.
 use mathlib.Core.Path.{_≡_, sym, ap, _∙_}
-use mathlib.Core.Logic.{_↔_}
+use mathlib.Core.Logic.{_≢_, _↔_}
 use Prim.Native.Nat.{ℕ, _+_, _*_, _/_, _%_, _^_, _≤_, _<_}
 use mathlib.Core.List.{List, []}
 use native.Mathlib.Omega.{arith}
@@ -13,14 +13,16 @@ use Rattle.list_laws.specs.Test.{eqb-of}
 use Rattle.list_laws.specs.Bits.{bit-shift}
 use Rattle.list_laws.specs.Word.{word-cong}
 use Rattle.list_laws.specs.Part.{length-part, getD-part}
-use Rattle.tfs_spec.specs.Layout.{BlockSize, maxBlocks, slots, numbers, blocks, block, slot, slotInode, nameField, volumeName, mapBit, inodeSize, inodeNumber, view, free, used, inode, name, size, number, place}
-use Rattle.tfs_spec.specs.Consistent.{numberAt, Bytes, slotAt, InVolume, NameAt, LayoutLaws}
+use Rattle.tfs_spec.specs.Layout.{BlockSize, maxBlocks, slots, numbers, blocks, block, slot, slotInode, slotName, nameField, volumeName, mapBit, inodeSize, inodeNumber, view, viewN, free, used, inode, name, size, number, place}
+use Rattle.tfs_spec.specs.Consistent.{numberAt, Bytes, slotAt, InVolume, EndsAt, LayoutLaws}
 use Rattle.tfs_facts.specs.Raw.{word-number, part-number, head-number, label-byte}
-use Rattle.tfs_facts.specs.CheckMeans.{Named, free-means, used-means, name-means, length-field}
+use Rattle.tfs_facts.specs.CheckMeans.{free-means, used-means, length-field}
+use Rattle.tfs_facts.specs.Slots.{name-is}
 use Rattle.tfs_facts.specs.MapWords.{map-bit-word}
 use Rattle.tfs_facts.specs.Views.{view-n, view-head, view-map, view-dir, length-map, length-dir, inode-block}
 use Rattle.tfs_facts.specs.Sizes.{in-image}
 use Rattle.tfs_facts.specs.Stores.{length-block, byte-at}
+use Rattle.tfs_proofs.specs.SlotBytes.{slot-byte, field-byte}
 
 module _ (B : ℕ) (sz : BlockSize B) (img : List ℕ) (long : 3 * B ≤ length img) where
   label-length : length (volumeName (view B img .head)) ≡ 16
@@ -57,68 +59,54 @@ module _ (B : ℕ) (sz : BlockSize B) (img : List ℕ) (long : 3 * B ≤ length 
 
   -- ---- a slot
   module _ (s : ℕ) (low : s < slots B) where
-    slot-byte : (j : ℕ) → j < 20 → getD (slot (view B img .dir) s) j 0 ≡ getD img (slotAt B s + j) 0
-    unfolding slot
-    slot-byte j h =
-        getD-part (s * 20) 20 (view B img .dir) j h
-        ∙ ap (λ (l : List ℕ). getD l (s * 20 + j) 0) (view-dir B img)
-        ∙ sym (byte-at B img 2 (s * 20 + j) (omega arith))
-        ∙ ap (λ (q : ℕ). getD img q 0) (omega arith)
-
     slot-inode : inode (view B img) s ≡ numberAt img (slotAt B s)
-    unfolding inode slotInode
+    unfolding inode slotInode view viewN
     slot-inode =
-        word-cong (slot (view B img .dir) s) img 0 (slotAt B s) (λ j k. (slot-byte (0 + j) (omega arith) ∙ ap (λ (q : ℕ). getD img q 0) (omega arith))) ∙ word-number img (slotAt B s)
+        word-cong (slot (block B img 2) s) img 0 (slotAt B s) (λ j k. (slot-byte B img s (0 + j) low (omega arith) ∙ ap (λ (q : ℕ). getD img q 0) (omega arith))) ∙ word-number img (slotAt B s)
 
-    slot-free : T (free (view B img) s) ↔ ((i : ℕ) → i < 20 → getD img (slotAt B s + i) 0 ≡ 0)
+    field-at : (i : ℕ) → i < 16 → getD (nameField (slot (view B img .dir) s)) i 0 ≡ getD img (slotAt B s + 4 + i) 0
+    field-at i h = ap (λ (d : List ℕ). getD (nameField (slot d s)) i 0) (view-dir B img) ∙ field-byte B img s i low h
+
+    first-byte : getD (nameField (slot (view B img .dir) s)) 0 0 ≡ getD img (slotAt B s + 4) 0
+    first-byte = field-at 0 (omega arith) ∙ ap (λ (q : ℕ). getD img q 0) (omega arith)
+
+    slot-free : T (free (view B img) s) ↔ ((numberAt img (slotAt B s) ≡ 0) × (getD img (slotAt B s + 4) 0 ≡ 0))
     slot-free =
         let m = free-means B (view B img) s (length-dir B img long) low in
-        ((λ t i h. sym (slot-byte i h) ∙ m .0 t i h), λ f. m .1 (λ i h. (slot-byte i h ∙ f i h)))
+        ((λ t. (sym slot-inode ∙ m .0 t .0, sym first-byte ∙ m .0 t .1)), λ h. m .1 (slot-inode ∙ h .0, first-byte ∙ h .1))
 
-    field-byte : (i : ℕ) → i < 16 → getD (nameField (slot (view B img .dir) s)) i 0 ≡ getD img (slotAt B s + 4 + i) 0
-    field-byte i h =
-        getD-part 4 16 (slot (view B img .dir) s) i h ∙ slot-byte (4 + i) (omega arith) ∙ ap (λ (q : ℕ). getD img q 0) (omega arith)
-
-    named-at : (k : ℕ) → Named (nameField (slot (view B img .dir) s)) k → NameAt img (slotAt B s + 4) k
-    named-at k n =
-        record {
-          some = n .some;
-          short = n .short;
-          bytes = λ i h z. n .bytes i h (field-byte i (omega (arith, n .short)) ∙ z);
-          zeros = λ i h l. (sym (field-byte i (omega arith)) ∙ n .zeros i h l);
-        }
-
-    at-named : (k : ℕ) → NameAt img (slotAt B s + 4) k → Named (nameField (slot (view B img .dir) s)) k
-    at-named k n =
-        record {
-          some = n .some;
-          short = n .short;
-          bytes = λ i h z. n .bytes i h (sym (field-byte i (omega (arith, n .short))) ∙ z);
-          zeros = λ i h l. (field-byte i (omega arith) ∙ n .zeros i h l);
-        }
-
-    slot-used : T (used (view B img) s) ↔ (InVolume B img (numberAt img (slotAt B s)) × ((k : ℕ) × NameAt img (slotAt B s + 4) k))
+    slot-used : T (used (view B img) s) ↔ (InVolume B img (numberAt img (slotAt B s)) × ((i : ℕ) × (i < 16) × (getD img (slotAt B s + 4 + i) 0 ≡ 0)) × (getD img (slotAt B s + 4) 0 ≢ 0))
     slot-used =
         let m = used-means B (view B img) s (length-dir B img long) low in (
           (λ t.
-              let u = m .0 t in
-              ((omega (arith, slot-inode, u .0 .low), omega (arith, slot-inode, u .0 .high, view-n B img)), (u .1 .0, named-at (u .1 .0) (u .1 .1)))),
-          λ f.
+              let u = m .0 t in (
+                (omega (arith, slot-inode, u .0 .low), omega (arith, slot-inode, u .0 .high, view-n B img)),
+                (u .1 .0, u .1 .1, sym (field-at (u .1 .0) (u .1 .1)) ∙ u .1 .2),
+                λ e. u .2 (first-byte ∙ e),
+              )),
+          λ h.
               m .1 (
-                record { low = omega (arith, slot-inode, f .0 .0); high = omega (arith, slot-inode, f .0 .1, view-n B img) },
-                (f .1 .0, at-named (f .1 .0) (f .1 .1)),
+                record { low = omega (arith, slot-inode, h .0 .0); high = omega (arith, slot-inode, h .0 .1, view-n B img) },
+                (h .1 .0, h .1 .1, field-at (h .1 .0) (h .1 .1) ∙ h .1 .2),
+                λ e. h .2 (sym first-byte ∙ e),
               ),
         )
 
-    slot-name : (k : ℕ) → NameAt img (slotAt B s + 4) k → name (view B img) s ≡ part (slotAt B s + 4) k img
+    slot-name : (k : ℕ) → EndsAt img (slotAt B s + 4) k → name (view B img) s ≡ part (slotAt B s + 4) k img
+    unfolding name slotName
     slot-name k n =
         let field : List ℕ = nameField (slot (view B img .dir) s) in
-        let l : length (take k field) ≡ k = length-take-le k field (omega (arith, n .short, length-field B (view B img) s (length-dir B img long) low)) in
+        let long-field : length field ≡ 16 = length-field B (view B img) s (length-dir B img long) low in
+        let l : length (take k field) ≡ k = length-take-le k field (omega (arith, n .short)) in
         let r : length (part (slotAt B s + 4) k img) ≡ k = length-part (slotAt B s + 4) k img (omega (arith, n .short)) in
-        name-means B (view B img) s (length-dir B img long) low k (at-named k n)
+        name-is field k (record {
+          short = omega (arith, n .short);
+          bytes = λ i h z. n .bytes i h (sym (field-at i (omega (arith, n .short))) ∙ z);
+          end = field-at k (omega (arith, n .short)) ∙ n .end;
+        })
         ∙ ext-getD 0 (take k field) (part (slotAt B s + 4) k img) (l ∙ sym r)
         (λ i h.
-        (getD-take k field i 0 (omega arith) ∙ field-byte i (omega (arith, n .short)) ∙ sym (getD-part (slotAt B s + 4) k img i (omega arith))))
+        (getD-take k field i 0 (omega arith) ∙ field-at i (omega (arith, n .short)) ∙ sym (getD-part (slotAt B s + 4) k img i (omega arith))))
 
     -- ---- its inode
     module _ (there : InVolume B img (inode (view B img) s)) where

@@ -19,8 +19,9 @@ use Rattle.tfs_proofs.specs.Changes.{changed, stays-consistent}
 use Rattle.tfs_proofs.specs.Formats.{format-refused, format-grants, format-consistent, format-empty, format-past, format-length, format-head, format-map, format-directory}
 use Rattle.tfs_proofs.specs.Reads.{transfer-law, covers}
 use Rattle.tfs_proofs.specs.Grants.{stands-at, fresh-high, label-allowed, name-allowed, format-rule, rule-reply}
-use Rattle.tfs_proofs.specs.Replies.{told-done, told-broken, granted-or-refused, faulty, fault-reply, numbered, list-only, keeps, kept, ignored-reply, tail-kept-by, tail-unread-by}
-use Rattle.tfs_proofs.specs.IgnoredSteps.{same-after-all}
+use Rattle.tfs_proofs.specs.Replies.{told-done, told-broken, granted-or-refused, faulty, fault-reply, numbered, list-only, keeps, kept, ignored-all, tail-kept-by, tail-unread-by}
+use Rattle.tfs_proofs.specs.IgnoredSteps.{same-after-all, bytes-after-all}
+use Rattle.tfs_proofs.specs.Leftovers.{leftovers-ignored, slot-law}
 use Rattle.tfs_proofs.specs.Touches.{remove-touches, create-touches}
 use Rattle.tfs_proofs.specs.Rooms.{removed-room, created-room, written-room}
 use Rattle.tfs_proofs.specs.Histories.{history-law}
@@ -95,8 +96,10 @@ statements =
           };
       kept-laws = λ B sz img. record {
         kept = kept B sz img;
-        ignored = ignored-reply B sz img;
+        ignored = ignored-all B sz img;
         ignored-after = same-after-all B sz img;
+        bytes-after = bytes-after-all B sz img;
+        leftovers = leftovers-ignored B sz img;
         tail-kept = tail-kept-by B sz img;
         tail-unread = tail-unread-by B sz img;
       };
@@ -116,6 +119,7 @@ statements =
       transfer-laws = transfer-law;
       history-laws = history-law;
       inode-laws = inode-law;
+      slot-laws = slot-law;
       request-laws = λ B sz img ok. record {
         writes = writes-law B (omega (arith, sz .large)) img (check-means B sz img .1 ok) (ok .sound);
         covers = covers B img;

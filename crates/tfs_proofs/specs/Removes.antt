@@ -9,7 +9,7 @@ use native.Mathlib.Omega.{arith}
 use native.Mathlib.Decide.{ℕ-discrete, decLt}
 use lib.ListN.{length}
 use lib.Dec.{T, T-not}
-use Rattle.lists.specs.Lists.{zeros, allZero, In}
+use Rattle.lists.specs.Lists.{zeros, In}
 use Rattle.list_laws.specs.Test.{by-test, cond-yes, cond-no}
 use Rattle.tfs_spec.specs.Layout.{BlockSize, slots, block, setBlock, slot, setSlot, setBits, mapBit, mapByte, sameName, slotFree, View, view, free, name, slotOf, contents}
 use Rattle.tfs_spec.specs.Check.{fileClaims}
@@ -18,6 +18,7 @@ use Rattle.tfs_facts.specs.Claims.{slotIn, owns-file}
 use Rattle.tfs_facts.specs.CheckMeans.{owns-inside, same-sym}
 use Rattle.tfs_spec.specs.Requests.{store, storeAll, removeStores}
 use Rattle.tfs_facts.specs.Views.{view-n, view-map, view-dir, length-map, length-dir}
+use Rattle.tfs_facts.specs.Slots.{zeros-free}
 use Rattle.tfs_facts.specs.Stores.{Fits, length-storeAll, stored-away, stored-first, block-same, length-setBlock}
 use Rattle.tfs_facts.specs.MapBits.{in-map, length-setBits, in-dec, mapped-all, Mapped, bits-kept, bits-set}
 use Rattle.tfs_proofs.specs.Frame.{Frame, n-same, name-same, file-from, owns-to, owns-from}
@@ -96,10 +97,10 @@ module _ (B : ℕ) (sz : BlockSize B) (img : List ℕ) (ok : Consistent B img) (
   v′ = view B new
 
   freed : T (free v′ s)
-  unfolding free slotFree
+  unfolding free
   freed =
-      subst (λ (x : List ℕ). T (allZero x))
-      (sym (ap (λ (x : List ℕ). slot x s) (view-dir B new ∙ new-dir) ∙ slot-set B (v .dir) s (zeros 20) (length-dir B img (ok .long)) hit refl)) tt
+      subst (λ (x : List ℕ). T (slotFree x))
+      (sym (ap (λ (x : List ℕ). slot x s) (view-dir B new ∙ new-dir) ∙ slot-set B (v .dir) s (zeros 20) (length-dir B img (ok .long)) hit refl)) zeros-free
 
   -- no file of the new volume is in the slot
   pub other : (t : ℕ) → File B v′ t → t ≢ s

@@ -2,15 +2,15 @@
 use mathlib.Core.Path.{_≡_, refl, sym, _∙_, ap, ap₂, subst}
 use mathlib.Core.Logic.{_≢_, _↔_, _⊎_, inl, inr, ⊎-elim}
 use mathlib.Core.Bool.{not}
-use Prim.Native.Nat.{ℕ, _≤_}
+use Prim.Native.Nat.{ℕ, _≤_, _*_}
 use mathlib.Core.List.{List, []}
 use native.Mathlib.Omega.{arith}
 use lib.ListN.{length}
-use lib.Dec.{T}
+use lib.Dec.{T, ltb}
 use Rattle.tfs_spec.specs.Layout.{BlockSize, view}
-use Rattle.tfs_spec.specs.Check.{Verdict, consistent, broken, check}
+use Rattle.tfs_spec.specs.Check.{Verdict, consistent, broken, check, tooShort}
 use Rattle.tfs_spec.specs.Consistent.{Consistent, FirstBroken}
-use Rattle.tfs_spec.specs.Requests.{Answer, done, value, unused, file, refused, granted, Outcome, refuse, checked, format, checkAnswer, create, remove, read, write, listAnswer, freeAnswer, Change, creates, removes, writes, perform, Request, changes, checks, reads, lists, counts, lent, reply, Operation, formats, requests, operate}
+use Rattle.tfs_spec.specs.Requests.{Answer, done, value, unused, file, refused, granted, Outcome, refuse, checked, format, checkAnswer, create, remove, read, write, listAnswer, freeAnswer, Change, creates, removes, writes, perform, Request, changes, checks, reads, lists, counts, lent, reply, Operation, formats, requests, operate, afterAll}
 use Rattle.tfs_spec.specs.Answers.{Rule}
 use Rattle.tfs_spec.specs.Effects.{SameRead, Beyond, SameVolume, Kept}
 use Rattle.tfs_facts.specs.CheckMeans.{check-means, check-breaks}
@@ -21,8 +21,9 @@ use Rattle.tfs_proofs.specs.Reads.{read-refused}
 use Rattle.tfs_proofs.specs.Grants.{rule-reply}
 use Rattle.tfs_proofs.specs.Answers.{Numbered, Other, other-numbered, broken-other, find-other, create-other, transfer-other, list-numbered}
 use Rattle.tfs_proofs.specs.Kept.{create-kept, remove-kept, write-kept}
-use Rattle.tfs_proofs.specs.Ignored.{ignored}
-use Rattle.tfs_proofs.specs.Tail.{tail-kept, tail-unread}
+use Rattle.tfs_proofs.specs.Ignored.{SameFill, ignored}
+use Rattle.tfs_proofs.specs.Tail.{tail-kept, tail-unread, format-answer}
+use Rattle.tfs_proofs.specs.IgnoredSteps.{same-after-all}
 
 -- ---- the check's answer tells the verdict
 pub told-done : (x : Verdict) → (checked x refused done ≡ done) ↔ (x ≡ consistent)
@@ -121,7 +122,7 @@ kept B sz img (creates nm z) = create-kept sz img nm z
 kept B sz img (removes nm) = remove-kept sz img nm
 kept B sz img (writes nm o bs) = write-kept sz img nm o bs
 
-pub ignored-reply : (B : ℕ) → BlockSize B → (a b : List ℕ) → SameRead B a b → (r : Request) → (reply B a r .answer ≡ reply B b r .answer) × (reply B a r .buffer ≡ reply B b r .buffer)
+ignored-reply : (B : ℕ) → BlockSize B → (a b : List ℕ) → SameRead B a b → (r : Request) → SameFill (reply B a r) (reply B b r)
 unfolding perform checkAnswer
 ignored-reply B sz a b same (changes (creates nm z)) = (ignored B sz a b same .create-same nm z, same-buffer B a b (creates nm z))
 ignored-reply B sz a b same (changes (removes nm)) = (ignored B sz a b same .remove-same nm, same-buffer B a b (removes nm))
@@ -130,6 +131,18 @@ ignored-reply B sz a b same checks = (ap (λ (x : Verdict). checked x refused do
 ignored-reply B sz a b same (reads nm o buf) = ignored B sz a b same .read-same nm o buf
 ignored-reply B sz a b same (lists s) = (ignored B sz a b same .list-same s, refl)
 ignored-reply B sz a b same counts = (ignored B sz a b same .free-same, refl)
+
+format-buffer : (B : ℕ) (img label : List ℕ) → format B img label .buffer ≡ []
+format-buffer B img label = by-format B img label (λ o. o .buffer ≡ []) (λ _. refl) (λ _. refl) (λ _ _. refl)
+
+ignored-any : (B : ℕ) → BlockSize B → (a b : List ℕ) → SameRead B a b → (x : Operation) → SameFill (operate B a x) (operate B b x)
+unfolding tooShort
+ignored-any B sz a b same (formats label) =
+    (format-answer B a b label (ap (λ (n : ℕ). ltb n (3 * B)) (same .long)), format-buffer B a label ∙ sym (format-buffer B b label))
+ignored-any B sz a b same (requests r) = ignored-reply B sz a b same r
+
+pub ignored-all : (B : ℕ) → BlockSize B → (a b : List ℕ) → SameRead B a b → (xs : List Operation) (x : Operation) → SameFill (operate B (afterAll B a xs) x) (operate B (afterAll B b xs) x)
+ignored-all B sz a b same xs x = ignored-any B sz (afterAll B a xs) (afterAll B b xs) (same-after-all B sz a b same xs) x
 
 -- ---- bytes from B·N on
 pub tail-kept-by : (B : ℕ) → BlockSize B → (img : List ℕ) (x : Operation) → Beyond B img (operate B img x .image)
@@ -142,9 +155,6 @@ tail-kept-by B sz img (requests checks) = record { long = refl; bytes = λ q h. 
 tail-kept-by B sz img (requests (reads nm o buf)) = rw (read-image B img nm o buf) (record { long = refl; bytes = λ q h. refl })
 tail-kept-by B sz img (requests (lists s)) = record { long = refl; bytes = λ q h. refl }
 tail-kept-by B sz img (requests counts) = record { long = refl; bytes = λ q h. refl }
-
-format-buffer : (B : ℕ) (img label : List ℕ) → format B img label .buffer ≡ []
-format-buffer B img label = by-format B img label (λ o. o .buffer ≡ []) (λ _. refl) (λ _. refl) (λ _ _. refl)
 
 pub tail-unread-by : (B : ℕ) → BlockSize B → (a b : List ℕ) → SameVolume B a b → (x : Operation) → (operate B a x .answer ≡ operate B b x .answer) × (operate B a x .buffer ≡ operate B b x .buffer) × SameVolume B (operate B a x .image) (operate B b x .image)
 unfolding perform

@@ -25,12 +25,11 @@ slotAt B s = 2 * B + 20 * s
 abbrev pub InVolume : ℕ → List ℕ → ℕ → Type 0
 InVolume B img b = (3 ≤ b) × (b < blocks B img)
 
--- "name of 1 to 15 bytes, then zeros to the end": the 16 bytes from p on hold a name of k bytes
-pub record NameAt (img : List ℕ) (p k : ℕ) : Type 0 where
-  pub some : 1 ≤ k
+-- the first zero of the 16 bytes from p on is k bytes behind p
+pub record EndsAt (img : List ℕ) (p k : ℕ) : Type 0 where
   pub short : k ≤ 15
   pub bytes : (i : ℕ) → i < k → getD img (p + i) 0 ≢ 0
-  pub zeros : (i : ℕ) → k ≤ i → i ≤ 15 → getD img (p + i) 0 ≡ 0
+  pub end : getD img (p + k) 0 ≡ 0
 
 -- of an image of three blocks or more
 pub record LayoutLaws (B : ℕ) (img : List ℕ) : Type 0 where
@@ -50,11 +49,12 @@ pub record LayoutLaws (B : ℕ) (img : List ℕ) : Type 0 where
   pub map-bit : Bytes img → (b : ℕ) → b < maxBlocks B → T (mapBit (view B img .map) b) ↔ (numberAt img (B + 4 * (b / 32)) / 2 ^ (b % 32) % 2 ≡ 1)
   -- "Block 2: 25 slots of 20 bytes: inode number (4), name (16, zero-ended)"
   pub slot-inode : (s : ℕ) → s < slots B → inode (view B img) s ≡ numberAt img (slotAt B s)
-  -- "free (20 zero bytes)"; "used (inode in 3..N−1; name of 1 to 15 bytes, then zeros to the end)"
-  pub slot-free : (s : ℕ) → s < slots B → T (free (view B img) s) ↔ ((i : ℕ) → i < 20 → getD img (slotAt B s + i) 0 ≡ 0)
-  pub slot-used : (s : ℕ) → s < slots B → T (used (view B img) s) ↔ (InVolume B img (numberAt img (slotAt B s)) × ((k : ℕ) × NameAt img (slotAt B s + 4) k))
-  -- a file's name is the bytes before the zero
-  pub slot-name : (s k : ℕ) → s < slots B → NameAt img (slotAt B s + 4) k → name (view B img) s ≡ part (slotAt B s + 4) k img
+  -- "a free slot has inode 0 and first name byte 0"
+  pub slot-free : (s : ℕ) → s < slots B → T (free (view B img) s) ↔ ((numberAt img (slotAt B s) ≡ 0) × (getD img (slotAt B s + 4) 0 ≡ 0))
+  -- "A used slot, its inode as before [in 3..N−1], has a zero in its 16 name bytes and a first byte not zero"
+  pub slot-used : (s : ℕ) → s < slots B → T (used (view B img) s) ↔ (InVolume B img (numberAt img (slotAt B s)) × ((i : ℕ) × (i < 16) × (getD img (slotAt B s + 4 + i) 0 ≡ 0)) × (getD img (slotAt B s + 4) 0 ≢ 0))
+  -- a slot's name is the bytes before the first zero; a free slot's is empty
+  pub slot-name : (s k : ℕ) → s < slots B → EndsAt img (slotAt B s + 4) k → name (view B img) s ≡ part (slotAt B s + 4) k img
   -- "Inode: size (4), then 127 block numbers"
   pub inode-size : (s : ℕ) → s < slots B → InVolume B img (inode (view B img) s) → size (view B img) s ≡ numberAt img (inode (view B img) s * B)
   pub inode-number : (s k : ℕ) → s < slots B → InVolume B img (inode (view B img) s) → k < numbers B → number (view B img) s k ≡ numberAt img (inode (view B img) s * B + 4 + 4 * k)
@@ -127,7 +127,7 @@ pub record Consistent (B : ℕ) (img : List ℕ) : Type 0 where
   pub labelled : (i : ℕ) × (i < 16) × (getD img (4 + i) 0 ≡ 0)
   pub sound : Sound B (view B img)
 
--- ---- each rule broken at a place
+-- ---- each rule broken at a place; of rules 5 to 7 "used" is "not free", for a slot that is neither breaks rule 4 before
 -- the k-th number of an inode is wrong: one of the first ⌈size/512⌉ is outside 3..N−1, or a later one is not 0
 abbrev pub WrongNumber : ℕ → View → ℕ → ℕ → Type 0
 WrongNumber B v s k = ((k < need B (size v s)) × (Inside v (number v s k) → ⊥)) ⊎ ((need B (size v s) ≤ k) × (number v s k ≢ 0))

@@ -8,9 +8,9 @@ use mathlib.Core.Option.{Option, none, some, Option·map}
 use lib.ListN.{length, getD, take, drop}
 use lib.Dec.{T, leb, ltb}
 use Rattle.lists.specs.Lists.{In, sum, table, joined, zeros, padTo, bytes4, words, part}
-use Rattle.tfs_spec.specs.Layout.{slots, need, blocks, block, mapBit, slot, sameName, inodeSize, inodeNumber, View, view, free, inode, size, number, content, Contents, contents, freeBlocks}
-use Rattle.tfs_spec.specs.Consistent.{Bytes, File, Consistent}
-use Rattle.tfs_spec.specs.Requests.{Answer, done, value, file, refused, granted, Outcome, refuse, format, create, remove, read, write, Change, creates, removes, writes, perform, Request, changes, reads, reply, Operation, operate, afterAll}
+use Rattle.tfs_spec.specs.Layout.{slots, need, blocks, block, mapBit, slot, sameName, inodeSize, inodeNumber, View, view, free, inode, name, size, number, content, Contents, contents, freeBlocks}
+use Rattle.tfs_spec.specs.Consistent.{Bytes, slotAt, File, Consistent}
+use Rattle.tfs_spec.specs.Requests.{Answer, done, value, refused, granted, Outcome, refuse, format, create, remove, read, write, Change, creates, removes, writes, perform, Operation, operate, afterAll}
 use Rattle.tfs_spec.specs.Answers.{NameRule, Stands, Fresh, Vacant}
 
 -- ---- the content of files, and what stands under a name
@@ -149,13 +149,25 @@ pub record Kept (B : ℕ) (img new : List ℕ) : Type 0 where
   pub bits : (b : ℕ) → blocks B img ≤ b → mapBit (block B new 1) b ≡ mapBit (block B img 1) b
   pub ends : (i : ℕ) → 20 * slots B ≤ i → getD (block B new 2) i 0 ≡ getD (block B img 2) i 0
 
+-- "old bytes": the bytes of a slot behind the first zero of its name bytes
+pub data Leftover (B : ℕ) (img : List ℕ) : ℕ → Type 0 where
+  behind : (s i j : ℕ) → s < slots B → i < j → j < 16 → getD img (slotAt B s + 4 + i) 0 ≡ 0 → Leftover B img (slotAt B s + 4 + j)
+
+-- the 20 bytes of slot t are the same in two images
+abbrev pub SameBytes : ℕ → List ℕ → List ℕ → ℕ → Type 0
+SameBytes B a b t = slot (block B a 2) t ≡ slot (block B b 2) t
+
+-- "each slot's inode number and name": those of slot t are the same in two images
+abbrev pub SameSlot : ℕ → List ℕ → List ℕ → ℕ → Type 0
+SameSlot B a b t = (inode (view B a) t ≡ inode (view B b) t) × (name (view B a) t ≡ name (view B b) t)
+
 -- two images of one length that differ at most in what is ignored
 pub record SameRead (B : ℕ) (a b : List ℕ) : Type 0 where
   pub long : length a ≡ length b
   -- magic and volume name
   pub head : part 0 20 (block B a 0) ≡ part 0 20 (block B b 0)
   pub bits : (i : ℕ) → i < blocks B a → mapBit (block B a 1) i ≡ mapBit (block B b 1) i
-  pub slots-same : (t : ℕ) → t < slots B → slot (block B a 2) t ≡ slot (block B b 2) t
+  pub slots-same : (t : ℕ) → t < slots B → SameSlot B a b t
   -- the blocks from 3 to N − 1
   pub rest : (i : ℕ) → 3 ≤ i → i < blocks B a → block B a i ≡ block B b i
 
@@ -172,9 +184,13 @@ pub record SameVolume (B : ℕ) (a b : List ℕ) : Type 0 where
 -- of every image, consistent or not
 pub record KeptLaws (B : ℕ) (a : List ℕ) : Type 0 where
   pub kept : (c : Change) → Kept B a (perform B a c .image)
-  -- what is ignored has no say in any answer, nor in what read gives; and however many requests come, the images they leave differ in no more
-  pub ignored : (b : List ℕ) → SameRead B a b → (r : Request) → (reply B a r .answer ≡ reply B b r .answer) × (reply B a r .buffer ≡ reply B b r .buffer)
+  -- however many requests come, what is ignored has no say in any answer, nor in what read gives; and the images they leave differ in no more
+  pub ignored : (b : List ℕ) → SameRead B a b → (xs : List Operation) (x : Operation) → (operate B (afterAll B a xs) x .answer ≡ operate B (afterAll B b xs) x .answer) × (operate B (afterAll B a xs) x .buffer ≡ operate B (afterAll B b xs) x .buffer)
   pub ignored-after : (b : List ℕ) → SameRead B a b → (xs : List Operation) → SameRead B (afterAll B a xs) (afterAll B b xs)
+  -- and slots with the same bytes go on having the same bytes
+  pub bytes-after : (b : List ℕ) → SameRead B a b → (t : ℕ) → t < slots B → SameBytes B a b t → (xs : List Operation) → SameBytes B (afterAll B a xs) (afterAll B b xs) t
+  -- leftovers are ignored: images that differ in nothing else are such; that leftovers are kept is SlotLaws in Histories.antt
+  pub leftovers : (b : List ℕ) → length a ≡ length b → ((q : ℕ) → (Leftover B a q → ⊥) → getD a q 0 ≡ getD b q 0) → SameRead B a b
   -- "Bytes from 512·N on are never read or changed"
   pub tail-kept : (x : Operation) → Beyond B a (operate B a x .image)
   pub tail-unread : (b : List ℕ) → SameVolume B a b → (x : Operation) → (operate B a x .answer ≡ operate B b x .answer) × (operate B a x .buffer ≡ operate B b x .buffer) × SameVolume B (operate B a x .image) (operate B b x .image)

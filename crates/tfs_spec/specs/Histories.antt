@@ -1,4 +1,4 @@
--- Histories: any list of requests, format and refused ones included. What stands and is read under a name, and what becomes of inode numbers.
+-- Histories: any list of requests, format and refused ones included. What stands and is read under a name, what becomes of inode numbers, and that the bytes of slots are kept.
 use mathlib.Core.Path.{_≡_}
 use mathlib.Core.Logic.{_≢_}
 use mathlib.Core.Bool.{cond, _&&_}
@@ -7,11 +7,11 @@ use mathlib.Core.List.{List, [], _∷_}
 use mathlib.Core.Option.{Option, none, some}
 use lib.Dec.{T}
 use Rattle.lists.specs.Lists.{zeros}
-use Rattle.tfs_spec.specs.Layout.{sameName, contents}
+use Rattle.tfs_spec.specs.Layout.{sameName, view, size, contents}
 use Rattle.tfs_spec.specs.Consistent.{Consistent}
 use Rattle.tfs_spec.specs.Requests.{value, file, granted, refuse, format, create, remove, read, write, listAnswer, creates, removes, writes, perform, changes, checks, reads, lists, counts, Operation, formats, requests, operate, afterAll}
-use Rattle.tfs_spec.specs.Answers.{NameRule}
-use Rattle.tfs_spec.specs.Effects.{over, effectOf, nameOn, readBy}
+use Rattle.tfs_spec.specs.Answers.{NameRule, Stands, Vacant}
+use Rattle.tfs_spec.specs.Effects.{over, effectOf, nameOn, readBy, SameBytes}
 
 -- no request of a list is such, each on the image that the last one left
 abbrev pub Never : ℕ → (List ℕ → Operation → Type 0) → List ℕ → List Operation → Type 0
@@ -63,7 +63,7 @@ pub record HistoryLaws (B : ℕ) (img : List ℕ) : Type 0 where
   -- what stands under a name is made by granted requests by that name and by granted formats; no other request changes it
   pub stands : (xs : List Operation) (nm : List ℕ) → contents B (afterAll B img xs) nm ≡ effectOnAll B nm img xs (contents B img nm)
   -- so reads after them give what these made of it, and no byte of a file that does not stand under it then
-  pub reads : Consistent B img → (xs : List Operation) (nm : List ℕ) → NameRule nm → (o : ℕ) (buf : List ℕ) → read B (afterAll B img xs) nm o buf ≡ readBy (effectOnAll B nm img xs (contents B img nm)) (afterAll B img xs) o buf
+  pub reads : (xs : List Operation) → Consistent B (afterAll B img xs) → (nm : List ℕ) → NameRule nm → (o : ℕ) (buf : List ℕ) → read B (afterAll B img xs) nm o buf ≡ readBy (effectOnAll B nm img xs (contents B img nm)) (afterAll B img xs) o buf
   -- after a granted remove, or a granted format, every read and write of the name is refused 13, until a create of it is granted
   pub ended : (nm : List ℕ) → NameRule nm → (x : Operation) → EndsName B nm img x → (xs : List Operation) → Never B (CreatesName B nm) (operate B img x .image) xs → (o : ℕ) (buf : List ℕ) → (read B (afterAll B (operate B img x .image) xs) nm o buf ≡ refuse (afterAll B (operate B img x .image) xs) buf 13 0) × (write B (afterAll B (operate B img x .image) xs) nm o buf ≡ refuse (afterAll B (operate B img x .image) xs) [] 13 0)
   -- and then, until a remove of it or a format is granted, reads give zeros and what writes by that name put there since
@@ -83,6 +83,8 @@ pub record InodeLaws (B : ℕ) (img : List ℕ) : Type 0 where
   -- create's number is the one that list shows for that name, and no file had it before
   pub created : (nm : List ℕ) (z h : ℕ) → create B img nm z .answer ≡ value h → (s : ℕ) × (listAnswer B (create B img nm z .image) s ≡ file nm h z)
   pub fresh : (nm : List ℕ) (z h : ℕ) → create B img nm z .answer ≡ value h → ShowsNone B img h
+  -- a name that list shows is one that requests take, and the file of that name is in that slot
+  pub listed : (s z h : ℕ) (nm : List ℕ) → listAnswer B img s ≡ file nm h z → NameRule nm × Stands B (view B img) nm s × (size (view B img) s ≡ z)
   -- two files of a volume never have the same number, nor the same name
   pub apart : (s t y z h : ℕ) (nm k : List ℕ) → listAnswer B img s ≡ file nm h y → listAnswer B img t ≡ file k h z → s ≡ t
   pub named : (s t y z h i : ℕ) (nm k : List ℕ) → T (sameName nm k) → listAnswer B img s ≡ file nm h y → listAnswer B img t ≡ file k i z → s ≡ t
@@ -90,3 +92,16 @@ pub record InodeLaws (B : ℕ) (img : List ℕ) : Type 0 where
   pub kept : (xs : List Operation) (s z h : ℕ) (nm : List ℕ) → listAnswer B img s ≡ file nm h z → Never B (EndsName B nm) img xs → listAnswer B (afterAll B img xs) s ≡ file nm h z
   pub ended : (s z h : ℕ) (nm : List ℕ) → listAnswer B img s ≡ file nm h z → (x : Operation) → EndsName B nm img x → ShowsNone B (operate B img x .image) h
   pub none : (xs : List Operation) (h : ℕ) → ShowsNone B img h → Never B (GivesNumber B h) img xs → ShowsNone B (afterAll B img xs) h
+
+-- ---- the bytes of slots, and with them leftovers, are kept
+-- a granted create into slot s, or a granted format
+pub data TakesSlot (B s : ℕ) (img : List ℕ) : Operation → Type 0 where
+  filled : (k : List ℕ) (z : ℕ) → T (granted (create B img k z .answer)) → Stands B (view B (create B img k z .image)) k s → TakesSlot B s img (requests (changes (creates k z)))
+  wiped : (label : List ℕ) → T (granted (format B img label .answer)) → TakesSlot B s img (formats label)
+
+-- of every image, consistent or not
+pub record SlotLaws (B : ℕ) (img : List ℕ) : Type 0 where
+  -- all 20 bytes of a file's slot stay until the file is removed or the volume is formatted
+  pub file-kept : (nm : List ℕ) (s : ℕ) → Stands B (view B img) nm s → (xs : List Operation) → Never B (EndsName B nm) img xs → SameBytes B (afterAll B img xs) img s
+  -- those of a free slot until a file is created in it or the volume is formatted
+  pub free-kept : (s : ℕ) → Vacant B (view B img) s → (xs : List Operation) → Never B (TakesSlot B s) img xs → SameBytes B (afterAll B img xs) img s

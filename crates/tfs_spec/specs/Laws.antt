@@ -1,19 +1,19 @@
 -- The laws of requests (demand 3): one claim each, over all consistent volumes and whole lists.
 use mathlib.Core.Path.{_≡_}
-use mathlib.Core.Logic.{_≢_, _↔_}
+use mathlib.Core.Logic.{_≢_, _↔_, _⊎_}
 use mathlib.Core.Bool.{Bool, cond, _&&_}
 use Prim.Native.Nat.{ℕ, _+_, _-_, _≤_, _<_, _*_}
 use mathlib.Core.List.{List, [], _∷_, map}
 use mathlib.Core.Option.{Option·map}
 use lib.ListN.{length, getD}
 use lib.Dec.{T, leb, ltb}
-use Rattle.lists.specs.Lists.{table, joined}
-use Rattle.tfs_spec.specs.Layout.{block, sameName, view, name, size, place, contents, BlockSize}
+use Rattle.lists.specs.Lists.{table, joined, zeros}
+use Rattle.tfs_spec.specs.Layout.{slots, block, slot, sameName, view, name, size, place, contents, BlockSize}
 use Rattle.tfs_spec.specs.Consistent.{File, Consistent, Bytes, LayoutLaws, NameLaws, NumberLaws}
 use Rattle.tfs_spec.specs.Requests.{Answer, done, value, unused, file, refused, granted, Outcome, create, remove, write, Change, perform}
-use Rattle.tfs_spec.specs.Answers.{CheckLaws, RefusalLaws, LabelRule, GrantLaws}
-use Rattle.tfs_spec.specs.Effects.{nameOn, ContentLaws, ChangeLaws, TouchLaws, FormatLaws, TransferLaws, KeptLaws, ByteLaws, RoomLaws}
-use Rattle.tfs_spec.specs.Histories.{HistoryLaws, InodeLaws}
+use Rattle.tfs_spec.specs.Answers.{CheckLaws, RefusalLaws, LabelRule, Stands, GrantLaws}
+use Rattle.tfs_spec.specs.Effects.{nameOn, ContentLaws, ChangeLaws, TouchLaws, FormatLaws, TransferLaws, SameSlot, KeptLaws, ByteLaws, RoomLaws}
+use Rattle.tfs_spec.specs.Histories.{HistoryLaws, InodeLaws, SlotLaws}
 
 pub record Write : Type 0 where
   pub name : List ℕ
@@ -80,13 +80,21 @@ pub record PiecesLaw (B : ℕ) (img nm : List ℕ) (o : ℕ) (bs : List (List �
   pub image : piecesImage B img nm o bs ≡ write B img nm o (joined bs) .image
   pub count : piecesCount B img nm o bs ≡ countOf (write B img nm o (joined bs) .answer)
 
--- 3. "A granted create, then a remove of that name, gives the directory and map back byte for byte"
-pub record BackLaw (B : ℕ) (img nm : List ℕ) (z : ℕ) : Type 0 where
+-- the image after a create and a remove of that name
+abbrev pub undone : ℕ → List ℕ → List ℕ → ℕ → List ℕ
+undone B img nm z = remove B (create B img nm z .image) nm .image
+
+-- 3. "A granted create, then a remove of that name, gives the directory and map back": the map byte for byte, of the directory "each slot's inode number and name"
+pub record BackLaw (B : ℕ) (img nm : List ℕ) (z s : ℕ) : Type 0 where
   -- the remove is granted
   pub answer : remove B (create B img nm z .image) nm .answer ≡ done
   -- "The map is block 1, the directory block 2"
-  pub map : block B (remove B (create B img nm z .image) nm .image) 1 ≡ block B img 1
-  pub directory : block B (remove B (create B img nm z .image) nm .image) 2 ≡ block B img 2
+  pub map : block B (undone B img nm z) 1 ≡ block B img 1
+  pub slots-same : (t : ℕ) → t < slots B → SameSlot B (undone B img nm z) img t
+  -- of its bytes: slot s, where the file stood, is 20 zeros, and all of block 2 outside it is as before
+  pub stood : Stands B (view B (create B img nm z .image)) nm s
+  pub zeroed : slot (block B (undone B img nm z) 2) s ≡ zeros 20
+  pub others : (i : ℕ) → (i < s * 20) ⊎ (s * 20 + 20 ≤ i) → getD (block B (undone B img nm z) 2) i 0 ≡ getD (block B img 2) i 0
 
 -- two requests are granted in both orders
 pub record BothOrders (B : ℕ) (img : List ℕ) (a b : Change) : Type 0 where
@@ -100,11 +108,11 @@ pub record RequestLaws (B : ℕ) (img : List ℕ) : Type 0 where
   -- what it is to cover in it: granted with the count c, to that name, at an offset from which c bytes reach p
   pub covers : (w : Write) (nm : List ℕ) (p : ℕ) → T (coversAt B img w nm p) ↔ (T (sameName (w .name) nm) × (c : ℕ) × (request B img w .answer ≡ value c) × (w .offset ≤ p) × (p < w .offset + c))
   pub pieces : (nm : List ℕ) (o : ℕ) (bs : List (List ℕ)) → PiecesLaw B img nm o bs
-  pub back : (nm : List ℕ) (z : ℕ) → T (granted (create B img nm z .answer)) → BackLaw B img nm z
+  pub back : (nm : List ℕ) (z : ℕ) → T (granted (create B img nm z .answer)) → (s : ℕ) × BackLaw B img nm z s
   -- 4. "Two requests out of create, remove and write, on different names and granted in both orders, end with the same names, sizes and contents in either order"
   pub orders : (a b : Change) → (T (sameName (nameOn a) (nameOn b)) → ⊥) → BothOrders B img a b → (nm : List ℕ) → contents B (perform B (perform B img a .image) b .image) nm ≡ contents B (perform B (perform B img b .image) a .image) nm
 
--- ---- all statements, each with its premises; tfs_proofs/specs/Proved.antt proves each
+-- ---- all statements, each with its premises; tfs_proofs/specs/Proved.antt proves each. The starred numbers are in starred/specs/Starred.antt
 pub record Statements : Type 0 where
   -- of every image
   pub number-laws : NumberLaws
@@ -115,6 +123,7 @@ pub record Statements : Type 0 where
   pub kept-laws : (B : ℕ) → BlockSize B → (img : List ℕ) → KeptLaws B img
   pub history-laws : (B : ℕ) → BlockSize B → (img : List ℕ) → HistoryLaws B img
   pub inode-laws : (B : ℕ) → BlockSize B → (img : List ℕ) → InodeLaws B img
+  pub slot-laws : (B : ℕ) → BlockSize B → (img : List ℕ) → SlotLaws B img
   -- of images of three blocks or more, of images of bytes
   pub layout-laws : (B : ℕ) → BlockSize B → (img : List ℕ) → 3 * B ≤ length img → LayoutLaws B img
   pub format-laws : (B : ℕ) → BlockSize B → (img label : List ℕ) → 3 * B ≤ length img → LabelRule label → FormatLaws B img label

@@ -4,9 +4,9 @@ use mathlib.Core.Bool.{Bool, _&&_, not, cond}
 use Prim.Native.Nat.{ℕ, _+_, _-_, _*_, _/_, _%_, _≤_, min}
 use mathlib.Core.List.{List, [], _∷_, _++_}
 use mathlib.Core.Option.{Option, none, some}
-use lib.ListN.{length, getD, drop, set}
+use lib.ListN.{length, getD, set}
 use lib.Dec.{leb, ltb, eqb}
-use Rattle.lists.specs.Lists.{sameList, allZero, firstZero, upToZero, padTo, word, bytes4, words, bitOf, withBit, part, withPart, least, count, table}
+use Rattle.lists.specs.Lists.{sameList, zeroAt, firstZero, upToZero, padTo, word, bytes4, words, bitOf, withBit, part, withPart, least, count, table}
 
 -- block sizes of the statements: 512 or larger, and whole 32-bit words
 pub record BlockSize (B : ℕ) : Type 0 where
@@ -85,22 +85,23 @@ slotInode e = word e 0
 abbrev pub nameField : List ℕ → List ℕ
 nameField e = part 4 16 e
 
+-- "Names are compared and listed up to the zero"; all 16 bytes where there is none
 unfoldable pub slotName : List ℕ → List ℕ
 slotName e = upToZero (nameField e)
 
--- "free (20 zero bytes)"
+-- "a free slot has inode 0 and first name byte 0"
 unfoldable pub slotFree : List ℕ → Bool
-slotFree e = allZero e
+slotFree e = eqb (slotInode e) 0 && zeroAt (nameField e) 0
 
 -- "in 3..N−1"
 abbrev pub inRange : ℕ → ℕ → Bool
 inRange n b = leb 3 b && ltb b n
 
--- "name of 1 to 15 bytes, then zeros to the end"
+-- "a zero in its 16 name bytes and a first byte not zero"
 unfoldable pub nameFormed : List ℕ → Bool
-nameFormed f = leb 1 (firstZero f) && ltb (firstZero f) 16 && allZero (drop (firstZero f) f)
+nameFormed f = ltb (firstZero f) 16 && not (zeroAt f 0)
 
--- "used (inode in 3..N−1; name of 1 to 15 bytes, then zeros to the end)"
+-- "A used slot, its inode as before, has a zero in its 16 name bytes and a first byte not zero"
 unfoldable pub slotUsed : ℕ → List ℕ → Bool
 slotUsed n e = inRange n (slotInode e) && nameFormed (nameField e)
 

@@ -6,16 +6,17 @@ use mathlib.Core.List.{List, [], _++_}
 use native.Mathlib.Omega.{arith}
 use native.Mathlib.Nat.{zero-add}
 use lib.ListN.{length, getD, take, drop}
-use lib.Dec.{T-not}
+use lib.Dec.{T, T-not}
 use lib.Seq.{take-at}
 use Rattle.list_laws.specs.Test.{cond-no}
 use Rattle.lists.specs.Lists.{table, storeAt}
 use Rattle.list_laws.specs.Table.{length-table, getD-table, table-cong}
-use Rattle.tfs_spec.specs.Layout.{need, blocks, block, inodeSize, inodeNumber, View, view, free, inode, size, number, place}
+use Rattle.tfs_spec.specs.Layout.{need, blocks, block, slot, inodeSize, inodeNumber, View, view, free, used, inode, name, size, number, place}
 use Rattle.tfs_spec.specs.Check.{consistent, check, fileClaims}
 use Rattle.tfs_spec.specs.Consistent.{File, Consistent}
 use Rattle.tfs_spec.specs.Consistent as rules
 use Rattle.tfs_facts.specs.CheckMeans.{check-means, used-inode, need-le}
+use Rattle.tfs_facts.specs.Slots.{used-named, used-short}
 use Rattle.tfs_facts.specs.Sizes.{in-image, in-need, size-512}
 use Rattle.tfs_facts.specs.Views.{view-n, inode-block}
 use Rattle.tfs_map.specs.Under.{Under}
@@ -49,9 +50,16 @@ module _ (img : List ℕ) (passed : check 512 img ≡ consistent) where
 
   -- ---- the file in slot s
   module _ (s : ℕ) (f : File 512 v s) where
+    stands : T (used v s)
+    stands = ⊎-elim (λ t. absurd (T-not (free v s) (f .taken) t)) (λ t. t) (ok .sound .formed s (f .slot))
+
     pub inode-inside : rules.Inside v (inode v s)
-    inode-inside =
-        ⊎-elim (λ t. absurd (T-not (free v s) (f .taken) t)) (λ t. used-inode v s t) (ok .sound .formed s (f .slot))
+    inode-inside = used-inode v s stands
+
+    -- its name has 1 to 15 bytes
+    pub name-sized : (1 ≤ length (name v s)) × (length (name v s) ≤ 15)
+    unfolding name used
+    name-sized = (used-named (slot (v .dir) s) (v .n) stands, omega (arith, used-short (slot (v .dir) s) (v .n) stands))
 
     abbrev b : ℕ
     b = inode v s

@@ -6,7 +6,7 @@ use reference::tfs::{self as reference_tfs, LARGEST_FILE, MOST_BLOCKS};
 
 use crate::race::Race;
 use crate::table::{ns, pair, ratio, Table};
-use crate::volumes::{empty, plain, with_data, with_files, Made};
+use crate::volumes::{empty, plain, with_data, with_files, with_leftovers, Made};
 
 /// Times an operation of both programs, each on its own copy of an image.
 fn both<T, U>(
@@ -63,6 +63,9 @@ pub fn requests(rounds: usize) {
             );
         }
     }
+    let left = with_leftovers();
+    let times = check(rounds, &left.image);
+    table.row(format!("check, {}", left.title), pair(&times));
     table.print("TFS: a volume of 2 MiB");
 }
 
@@ -101,6 +104,9 @@ pub fn short_transfers(rounds: usize) {
         table.row(format!("read, {}", made.title), pair(&read));
         table.row(format!("write, {}", made.title), pair(&write));
     }
+    let left = with_leftovers();
+    let times = read(rounds, &left, SIZE);
+    table.row(format!("read, {}", left.title), pair(&times));
     table.print(&format!("TFS: read and write of {SIZE} bytes"));
 }
 

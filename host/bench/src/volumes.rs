@@ -1,8 +1,11 @@
 //! The volumes that are timed.
 
-use generate::tfs::{volume, Shape};
+use generate::tfs::{leftovers, volume, Shape};
 use generate::Random;
-use reference::tfs::{self, BLOCK_SIZE, LARGEST_FILE, MOST_BLOCKS};
+use reference::tfs::{self, BLOCK_SIZE, LARGEST_FILE, MOST_BLOCKS, SLOTS};
+
+/// The sizes of seven files; a file of the largest size comes to them.
+const TYPICAL: [u32; 7] = [1_000, 200, 4_096, 12_000, 512, 30_000, 100];
 
 /// A volume with a file of the largest size in it.
 #[derive(Clone)]
@@ -34,7 +37,7 @@ pub fn with_files(blocks: usize, sizes: &[u32]) -> Vec<u8> {
 
 /// The volumes of 2 MiB for requests that move no content.
 pub fn plain() -> [(&'static str, Vec<u8>); 3] {
-    let typical = [1_000, 200, 4_096, 12_000, 512, 30_000, 100, 65_024];
+    let typical = [&TYPICAL[..], &[LARGEST_FILE]].concat();
     [
         ("empty", empty(MOST_BLOCKS)),
         ("8 files", with_files(MOST_BLOCKS, &typical)),
@@ -47,34 +50,47 @@ pub fn plain() -> [(&'static str, Vec<u8>); 3] {
 
 /// The volumes of 2 MiB with a file of the largest size.
 pub fn with_data() -> Vec<Made> {
-    let typical = [1_000, 200, 4_096, 12_000, 512, 30_000, 100];
-    let shapes: [(&'static str, &[u32]); 3] = [
-        ("only this file", &[]),
-        ("8 files", &typical),
-        ("25 largest files", &[LARGEST_FILE; 24]),
-    ];
-    let mut made: Vec<Made> = shapes
-        .iter()
-        .map(|(title, sizes)| {
-            let mut image = with_files(MOST_BLOCKS, sizes);
-            let name = b"DATA".to_vec();
-            tfs::create(&mut image, &name, LARGEST_FILE).expect("create");
-            Made { title, image, name }
-        })
-        .collect();
-    made.push(scattered());
+    vec![
+        with_largest("only this file", &[]),
+        with_largest("8 files", &TYPICAL),
+        with_largest("25 largest files", &[LARGEST_FILE; 24]),
+        scattered(),
+    ]
+}
+
+/// The volume of 8 files with leftovers behind every name and in all of every free slot.
+pub fn with_leftovers() -> Made {
+    let mut made = with_largest("8 files and leftovers", &TYPICAL);
+    fill_leftovers(&mut made.image, b'x');
     made
 }
 
-/// A volume whose largest file has its blocks anywhere.
+/// A volume with files of these sizes and then one of the largest.
+fn with_largest(title: &'static str, sizes: &[u32]) -> Made {
+    let mut image = with_files(MOST_BLOCKS, sizes);
+    let name = b"DATA".to_vec();
+    tfs::create(&mut image, &name, LARGEST_FILE).expect("create");
+    Made { title, image, name }
+}
+
+/// Fills all leftovers with a byte.
+fn fill_leftovers(image: &mut [u8], byte: u8) {
+    for slot in 0..SLOTS {
+        let behind = leftovers(image, slot);
+        image[behind].fill(byte);
+    }
+}
+
+/// A volume without leftovers whose largest file has its blocks anywhere.
 fn scattered() -> Made {
     let mut random = Random::new(1);
     loop {
-        let made = volume(&mut random, Shape::Largest, MOST_BLOCKS);
+        let mut made = volume(&mut random, Shape::Largest, MOST_BLOCKS);
         let file = made.files.iter().find(|file| file.size == LARGEST_FILE);
         let file = file.expect("a file of the largest size");
         let neighbours = file.blocks.windows(2).filter(|two| two[0] + 1 == two[1]);
         if neighbours.count() < 8 {
+            fill_leftovers(&mut made.image, 0);
             return Made {
                 title: "scattered blocks",
                 name: file.name.clone(),

@@ -1,7 +1,7 @@
 //! Sequences of requests on TFS volumes.
 
 use generate::cases::tfs_arguments;
-use generate::tfs::{damage_volume, damage_volume_twice, scramble_volume, Volume};
+use generate::tfs::{damage_volume, damage_volume_twice, put_leftovers, scramble_volume, Volume};
 use reference::request::{Arguments, Request};
 use reference::tfs::BLOCK_SIZE;
 
@@ -51,6 +51,9 @@ pub(crate) fn on_next(comparison: &mut Comparison) -> Result<(), Stop> {
         history.step()?;
         if history.comparison.random.one_in(if large { 24 } else { 6 }) {
             history.aside()?;
+        }
+        if history.comparison.random.one_in(24) {
+            history.leave();
         }
     }
     Ok(())
@@ -149,6 +152,15 @@ impl<'a> History<'a> {
             self.comparison.ask(&mut pair, request, &arguments)?;
         }
         Ok(())
+    }
+
+    /// Leaves bytes behind names and in free slots, as another program might; requests go on then.
+    fn leave(&mut self) {
+        self.made.image = self.pair.image().to_vec();
+        if self.made.image.len() >= 3 * BLOCK_SIZE {
+            put_leftovers(&mut self.comparison.random, &mut self.made);
+            self.pair = self.comparison.pair(&self.made.image);
+        }
     }
 
     fn request(&mut self) -> (Request, Arguments) {

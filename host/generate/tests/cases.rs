@@ -1,8 +1,11 @@
 //! Cases meet every answer, and the same seed gives the same ones.
 
+mod ways;
+
 use std::collections::HashSet;
 
 use generate::cases::{romfs_cases, tfs_cases, Case};
+use generate::tfs::has_leftovers;
 use reference::request::{Arguments, Request};
 use reference::tfs::{self, Listing};
 
@@ -80,6 +83,29 @@ fn a_name_is_refused_before_an_offset() {
             }
         }
     }
+}
+
+#[test]
+fn a_good_part_of_the_images_has_leftovers() {
+    let cases = tfs_cases(1, 600, false);
+    let sound = |case: &&Case| tfs::check(&case.image).is_ok();
+    let (mut used, mut free) = (0, 0);
+    for case in cases.iter().filter(sound) {
+        let left = |slot: &u32| has_leftovers(&case.image, *slot as usize);
+        let is_free = |slot: &u32| tfs::list(&case.image, *slot) == Ok(Listing::Free);
+        used += usize::from((0..25).filter(left).any(|slot| !is_free(&slot)));
+        free += usize::from((0..25).filter(left).any(|slot| is_free(&slot)));
+    }
+    assert!(used > 150 && free > 150, "{used} {free}");
+}
+
+#[test]
+fn cases_meet_every_way_to_break_a_slot() {
+    let cases = tfs_cases(1, 600, false);
+    let refused = cases.iter().filter(|case| case.answer.number == 4);
+    let met = refused.map(|case| ways::way(&case.image, case.answer.place));
+    let met: HashSet<_> = met.collect();
+    assert_eq!(met.len(), 9, "{met:?}");
 }
 
 #[test]

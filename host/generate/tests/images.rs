@@ -1,15 +1,17 @@
 //! Generated images are what they are said to be, and the quick checks agree with literal ones.
 
 mod naive;
+mod ways;
 
-use std::collections::HashSet;
+use std::collections::{HashMap, HashSet};
 use std::ops::RangeInclusive;
 
 use generate::romfs::{
     damage_rom, damage_rom_twice, flat_rom, rom, scramble_rom, tree_rom, Placed, Rom, RomPlan,
 };
 use generate::tfs::{
-    any_volume, damage_volume, damage_volume_twice, scramble_volume, volume, Shape, Volume,
+    any_volume, damage_slot, damage_volume, damage_volume_twice, scramble_volume, volume, Shape,
+    SlotFault, Volume,
 };
 use generate::Random;
 use reference::romfs::{self, Entry};
@@ -168,6 +170,28 @@ fn each_rule_of_tfs_is_broken_alone_and_in_pairs() {
     }
     assert!(broken.alone.iter().all(|(rule, number)| rule == number));
     assert_eq!((broken.alone.len(), broken.pairs.len()), (7, 28));
+}
+
+#[test]
+fn a_slot_is_broken_in_every_way() {
+    let mut random = Random::new(19);
+    let mut broken: HashMap<(SlotFault, bool), usize> = HashMap::new();
+    for _ in 0..400 {
+        let made = any_volume(&mut random, 40);
+        for way in SlotFault::ALL {
+            let Some((image, owed)) = damage_slot(&mut random, &made, way) else {
+                assert!(way == SlotFault::Repeated && made.files.len() < 2);
+                continue;
+            };
+            assert_eq!(TFS.fault(&image), Some(owed), "{way:?}");
+            let met = ways::way(&image, owed.place);
+            assert_eq!(met.0, way);
+            *broken.entry(met).or_default() += 1;
+        }
+    }
+    // A name without an end has no leftovers; the other ways come with and without.
+    assert_eq!(broken.len(), 9);
+    assert!(broken.values().all(|count| *count > 20), "{broken:?}");
 }
 
 /// What the header of a placed entry says, which is as it was placed.

@@ -3,7 +3,7 @@
 use std::collections::{BTreeMap, HashMap};
 use std::mem::discriminant;
 
-use generate::tfs::{any_volume, Volume};
+use generate::tfs::{any_volume, has_leftovers, Volume};
 use generate::Random;
 use reference::tfs::{check, create, free_bytes, list, read, remove, write, Listing};
 
@@ -146,19 +146,40 @@ fn requests_have_their_effect_and_no_other() {
     });
 }
 
+/// Inode number, size and name of each slot.
+fn listed(image: &[u8]) -> Vec<Listing<'_>> {
+    (0..25).map(|slot| list(image, slot).unwrap()).collect()
+}
+
 #[test]
-fn create_then_remove_gives_directory_and_map_back() {
-    rounds(22, 400, |random, made| {
+fn create_then_remove_gives_map_and_names_back() {
+    let (mut clean, mut left) = (0, 0);
+    rounds(22, 1000, |random, made| {
         let mut image = made.image.clone();
-        let name = random.name(15);
+        let length = random.between(1, 15);
+        let name = random.name(length);
         let size = random.below(1500) as u32;
-        if create(&mut image, &name, size).is_ok() {
-            remove(&mut image, &name).unwrap();
-            assert_eq!(image[..1536], made.image[..1536]);
-        } else {
+        if create(&mut image, &name, size).is_err() {
             assert_eq!(image, made.image);
+            return;
         }
+        let taken = |entry: &Listing| matches!(entry, Listing::Used { name: n, .. } if *n == name);
+        let slot = listed(&image).iter().position(taken).unwrap();
+        assert!(!has_leftovers(&image, slot));
+        remove(&mut image, &name).unwrap();
+        assert_eq!(listed(&image), listed(&made.image));
+        let mut expected = made.image[..1536].to_vec();
+        let bytes = &mut expected[1024 + 20 * slot..1044 + 20 * slot];
+        let count = if *bytes == [0; 20] {
+            &mut clean
+        } else {
+            &mut left
+        };
+        *count += 1;
+        bytes.fill(0);
+        assert_eq!(image[..1536], expected);
     });
+    assert!(clean > 100 && left > 100, "{clean} {left}");
 }
 
 #[test]

@@ -23,6 +23,18 @@ fn pump() -> Vec<u8> {
     image
 }
 
+/// What list gives of the file of `pump`.
+const TIMING: Listing = Listing::Used {
+    name: b"TIMING",
+    inode: 3,
+    size: 1_000,
+};
+
+/// The 20 bytes of a slot.
+fn slot(image: &mut [u8], index: usize) -> &mut [u8] {
+    &mut image[1024 + 20 * index..][..20]
+}
+
 #[test]
 fn format_of_65536_bytes() {
     let image = formatted(65_536);
@@ -48,12 +60,7 @@ fn create_of_timing() {
     assert!(image[1548..3072].iter().all(|&byte| byte == 0));
     assert!(image[3072..].iter().all(|&byte| byte == 0x5A));
     assert_eq!(free_bytes(&image), Ok(62_464));
-    let listed = Listing::Used {
-        name: b"TIMING",
-        inode: 3,
-        size: 1_000,
-    };
-    assert_eq!(list(&image, 0), Ok(listed));
+    assert_eq!(list(&image, 0), Ok(TIMING));
     assert_eq!(list(&image, 1), Ok(Listing::Free));
 }
 
@@ -301,9 +308,9 @@ fn faults_come_in_the_order_of_the_rules() {
     assert_eq!(check(&image), Err(Refusal::at(5, 1)));
     image[3 * 512] = 1;
     assert_eq!(check(&image), Err(Refusal::at(5, 0)));
-    image[1024 + 20 * 24 + 19] = 1;
+    slot(&mut image, 24)[4] = 1;
     assert_eq!(check(&image), Err(Refusal::at(4, 24)));
-    image[1024 + 20 * 2 + 4] = b'a';
+    slot(&mut image, 2)[4] = b'a';
     assert_eq!(check(&image), Err(Refusal::at(4, 2)));
     image[4..20].fill(b'n');
     assert_eq!(check(&image), plain(3));
@@ -322,10 +329,181 @@ fn a_shared_inode_doubles_all_its_blocks() {
     let mut image = blocks(20);
     create(&mut image, b"a", 600).unwrap();
     create(&mut image, b"b", 600).unwrap();
-    image[1024 + 20 + 3] = 3;
+    slot(&mut image, 1)[3] = 3;
     assert_eq!(check(&image), Err(Refusal::at(6, 3)));
-    image[1024 + 3] = 6;
-    image[1024 + 20 + 3] = 6;
+    slot(&mut image, 0)[3] = 6;
+    slot(&mut image, 1)[3] = 6;
     image[6 * 512 + 7] = 4;
     assert_eq!(check(&image), Err(Refusal::at(6, 4)));
+}
+
+/// Checks a volume whose last slot has this inode number and name; block 3 may be its inode.
+fn check_slot(inode: u8, name: &[u8; 16]) -> Result<(), Refusal> {
+    let mut image = blocks(8);
+    image[3 * 512..4 * 512].fill(0);
+    image[515] = if inode == 3 { 0b1111 } else { 0b0111 };
+    slot(&mut image, 24)[3] = inode;
+    slot(&mut image, 24)[4..].copy_from_slice(name);
+    check(&image)
+}
+
+#[test]
+fn a_slot_is_free_or_used_or_at_fault() {
+    const PADDED: &[u8; 16] = b"a\0\0\0\0\0\0\0\0\0\0\0\0\0\0\0";
+    let sound: [(u8, &[u8; 16]); 11] = [
+        (3, PADDED),
+        (3, b"abcdefghijklmno\0"),
+        (3, b"abcdefghijklmn\0x"),
+        (3, b"a\0bcdefghijklmno"),
+        (3, b"a\0b\0\0\0\0\0\0\0\0\0\0\0\0\0"),
+        (3, b"a\0\0\0\0\0\0\0\0\0\0\0\0\0\0x"),
+        (0, &[0; 16]),
+        (0, b"\0abcdefghijklmno"),
+        (0, b"\0a\0\0\0\0\0\0\0\0\0\0\0\0\0\0"),
+        (0, b"\0\0\0\0\0\0\0\0\0\0\0\0\0\0\0x"),
+        (0, b"\0\0TIMING\0\0\0\0\0\0\0\0"),
+    ];
+    for (inode, name) in sound {
+        assert_eq!(check_slot(inode, name), Ok(()), "{inode} {name:?}");
+    }
+    let unsound: [(u8, &[u8; 16]); 13] = [
+        (0, PADDED),
+        (0, b"a\0bcdefghijklmno"),
+        (0, b"abcdefghijklmnop"),
+        (3, &[0; 16]),
+        (3, b"\0abcdefghijklmno"),
+        (3, b"\0\0\0\0\0\0\0\0\0\0\0\0\0\0\0x"),
+        (3, b"abcdefghijklmnop"),
+        (1, PADDED),
+        (2, PADDED),
+        (8, PADDED),
+        (255, PADDED),
+        (1, &[0; 16]),
+        (8, b"\0abcdefghijklmno"),
+    ];
+    for (inode, name) in unsound {
+        let fault = Err(Refusal::at(4, 24));
+        assert_eq!(check_slot(inode, name), fault, "{inode} {name:?}");
+    }
+}
+
+/// Files of no bytes in slots 0, 1 and so on, with these bytes in place of their names.
+fn named(names: &[&[u8]]) -> Vec<u8> {
+    let mut image = blocks(12);
+    for letter in (b'a'..).take(names.len()) {
+        create(&mut image, &[letter], 0).unwrap();
+    }
+    for (index, name) in names.iter().enumerate() {
+        slot(&mut image, index)[4..][..name.len()].copy_from_slice(name);
+    }
+    image
+}
+
+#[test]
+fn names_are_compared_up_to_the_zero() {
+    let repeated: [(&[&[u8]], u32); 5] = [
+        (&[b"name\0one", b"name\0two"], 1),
+        (&[b"name", b"x", b"name\0two"], 2),
+        (&[b"name\0one", b"x\0one", b"name"], 2),
+        (&[b"name\0\0\0\0\0\0\0\0\0\0\0x", b"name\0x"], 1),
+        (&[b"name\0one", b"name\0two", b"name\0three"], 1),
+    ];
+    for (names, place) in repeated {
+        let image = named(names);
+        assert_eq!(check(&image), Err(Refusal::at(4, place)), "{names:?}");
+    }
+    let different: [&[&[u8]]; 4] = [
+        &[b"name\0x", b"namex"],
+        &[b"name\0left", b"left\0name"],
+        &[b"n\0ame", b"na\0me", b"nam\0e"],
+        &[b"abcdefghijklmno", b"abcdefghijklmn\0o"],
+    ];
+    for names in different {
+        assert_eq!(check(&named(names)), Ok(()), "{names:?}");
+    }
+}
+
+/// The volume of `pump` with leftovers behind the name and in the two slots after it.
+fn pump_with_leftovers() -> Vec<u8> {
+    let mut image = pump();
+    slot(&mut image, 0)[11..].copy_from_slice(b"old bytes");
+    slot(&mut image, 1)[5..].copy_from_slice(b"all of 15 bytes");
+    slot(&mut image, 2)[19] = b'x';
+    image
+}
+
+#[test]
+fn leftovers_are_no_part_of_a_name() {
+    let mut image = pump_with_leftovers();
+    assert_eq!(list(&image, 0), Ok(TIMING));
+    assert_eq!(list(&image, 1), Ok(Listing::Free));
+    assert_eq!(list(&image, 2), Ok(Listing::Free));
+    assert_eq!(create(&mut image, b"TIMING", 0), plain(10));
+    for name in [&b"old bytes"[..], b"all of 15 bytes", b"x", b"IMING"] {
+        assert_eq!(remove(&mut image, name), plain(13));
+        assert_eq!(refused_transfers(&image, name), 13);
+    }
+    for name in [&b"TIMING\0"[..], b"TIMING\0old bytes", b"\0all of 15 byte"] {
+        assert_eq!(remove(&mut image, name), plain(8));
+        assert_eq!(refused_transfers(&image, name), 8);
+    }
+}
+
+#[test]
+fn create_takes_a_free_slot_with_leftovers_and_remove_zeros_it() {
+    let before = pump_with_leftovers();
+    let mut image = before.clone();
+    assert_eq!(create(&mut image, b"new", 600), Ok(6));
+    let mut expected = before[1024..1536].to_vec();
+    expected[20..40].copy_from_slice(b"\0\0\0\x06new\0\0\0\0\0\0\0\0\0\0\0\0\0");
+    assert_eq!(image[1024..1536], expected);
+    remove(&mut image, b"new").unwrap();
+    expected[20..40].fill(0);
+    assert_eq!(image[1024..1536], expected);
+    assert_eq!(image[512..1024], before[512..1024]);
+    remove(&mut image, b"TIMING").unwrap();
+    expected[..20].fill(0);
+    assert_eq!(image[1024..1536], expected);
+}
+
+#[test]
+fn a_full_directory_may_have_leftovers() {
+    let mut image = blocks(40);
+    for index in 0..25 {
+        create(&mut image, &[b'a' + index as u8], 0).unwrap();
+        slot(&mut image, index)[6..].fill(b'z');
+    }
+    assert_eq!(create(&mut image, b"zzz", 0), plain(11));
+    remove(&mut image, b"q").unwrap();
+    slot(&mut image, 16)[5..].fill(b'z');
+    assert_eq!(create(&mut image, b"zzz", 0), Ok(19));
+}
+
+/// The answers of some requests, one after another, and the bytes that the read gives.
+fn answers_in_turn(image: &mut [u8]) -> (Vec<Result<u32, Refusal>>, [u8; 40]) {
+    let mut buffer = [7; 40];
+    let answers = vec![
+        write(image, b"TIMING", 990, &[0x33; 30]),
+        create(image, b"old bytes", 700),
+        create(image, b"TIMING", 0),
+        write(image, b"old bytes", 0, &[0x44; 9]),
+        free_bytes(image),
+        remove(image, b"x").map(|()| 0),
+        remove(image, b"old bytes").map(|()| 0),
+        read(image, b"TIMING", 980, &mut buffer),
+        check(image).map(|()| 0),
+    ];
+    (answers, buffer)
+}
+
+#[test]
+fn leftovers_are_ignored_and_kept() {
+    let (mut clean, mut image) = (pump(), pump_with_leftovers());
+    let before = image.clone();
+    assert_eq!(answers_in_turn(&mut image), answers_in_turn(&mut clean));
+    assert_eq!(image[..1024], clean[..1024]);
+    assert_eq!(image[1024..1044], before[1024..1044]);
+    assert_eq!(image[1044..1064], [0; 20]);
+    assert_eq!(image[1064..1536], before[1064..1536]);
+    assert_eq!(image[1536..], clean[1536..]);
 }

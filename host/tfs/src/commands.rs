@@ -47,7 +47,8 @@ NAME is the volume's name, of at most 15 bytes. --force replaces a file that sta
         name: "list",
         usage: "IMAGE",
         about: "Prints a line for each file: slot, inode number, size, name.
-In names the backslash and bytes that are not printable ASCII are written \\xNN.",
+In names the backslash and bytes that are not printable ASCII are written \\xNN.
+A name ends at its zero; leftovers behind it are shown by tfs dump only.",
         words: (1, 1),
         options: NO_OPTIONS,
         run: |given| volume::list(given.path(0)),
@@ -97,7 +98,9 @@ HOSTFILE may be - for standard output. A host file that stands there is replaced
         usage: "IMAGE slot N | inode N | map | header",
         about: "Prints bytes of the volume in hex, and what they mean.
 This is the tool's own reading of the bytes, not a request of the proved library: it checks
-nothing, and works on damaged volumes too. N is a slot, 0 to 24, or the block of an inode.",
+nothing, and works on damaged volumes too. N is a slot, 0 to 24, or the block of an inode.
+A slot is free, used or neither. Leftovers are its bytes behind the zero that ends its name,
+or behind the first name byte of a free slot; no other command looks at them.",
         words: (2, 3),
         options: NO_OPTIONS,
         run: dump,

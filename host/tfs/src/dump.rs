@@ -1,5 +1,7 @@
 //! Bytes of a volume in hex and their meaning, as this tool reads them, sound or damaged.
 
+mod slot;
+
 use crate::arguments::number;
 use crate::failure::{Failure, Outcome};
 use crate::image::Image;
@@ -56,11 +58,14 @@ impl Part {
         }
     }
 
-    fn meaning(self, bytes: &[u8], blocks: u32) -> String {
+    /// What the part means in an image that has all of it.
+    fn meaning(self, image: &[u8]) -> String {
+        let blocks = (image.len() / BLOCK).min(MOST_BLOCKS) as u32;
+        let bytes = &image[self.range()];
         match self {
             Self::Header => header(bytes, blocks),
             Self::Map => map(bytes, blocks),
-            Self::Slot(_) => slot(bytes, blocks),
+            Self::Slot(number) => slot::meaning(image, number, blocks),
             Self::Inode(_) => inode(bytes, blocks),
         }
     }
@@ -81,7 +86,7 @@ pub fn dump(path: &Path, part: Part) -> Outcome {
     let meaning = if bytes.len() < range.len() {
         format!("cut off: the image ends at byte {length}\n")
     } else {
-        part.meaning(bytes, (length / BLOCK).min(MOST_BLOCKS) as u32)
+        part.meaning(&image.bytes)
     };
     let text = [NOTE, &hex(range.start, bytes), &meaning].concat();
     Ok(text.into_bytes())
@@ -119,27 +124,6 @@ fn header(bytes: &[u8], blocks: u32) -> String {
         None => "without an end".to_string(),
     };
     format!("magic number: {magic}, {right}\nvolume name: {label}\nblocks: {blocks}\n")
-}
-
-fn slot(bytes: &[u8], blocks: u32) -> String {
-    if bytes.iter().all(|&byte| byte == 0) {
-        return "free\n".to_string();
-    }
-    let inode = word(bytes, 0);
-    let name = match zero_ended(&bytes[4..]) {
-        Some(name) => format!("\"{}\"", words::name(name)),
-        None => "without an end".to_string(),
-    };
-    let behind = bytes[4..].iter().skip_while(|&&byte| byte != 0);
-    let padding = if behind.copied().all(|byte| byte == 0) {
-        ""
-    } else {
-        ", bytes after its zero"
-    };
-    format!(
-        "inode: block {inode}{}\nname: {name}{padding}\n",
-        out_of_range(inode, blocks)
-    )
 }
 
 fn inode(bytes: &[u8], blocks: u32) -> String {

@@ -15,9 +15,9 @@ pub fn refusal(refusal: Refusal) -> String {
 /// Refusals of a TFS volume with a slot or a block as their place.
 fn at_place(number: u32, place: u32) -> String {
     match number {
-        4 => format!(
-            "slot {place} is neither free nor well formed, or repeats the name of a lower slot"
-        ),
+        4 => {
+            format!("slot {place} is neither free nor used, or repeats the name of a lower slot")
+        }
         5 => format!("slot {place} has an inode with a size or a block number out of range"),
         6 => format!("block {place} is claimed twice"),
         _ => format!("block {place} has a map bit that differs from its use"),

@@ -36,9 +36,9 @@ fn fault_words(rule: u64, place: u32) -> String {
         1 => "the image is under 1,536 bytes".to_string(),
         2 => "the magic number is not 3745".to_string(),
         3 => "the volume name has no zero in its 16 bytes".to_string(),
-        4 => format!(
-            "slot {place} is neither free nor well formed, or repeats the name of a lower slot"
-        ),
+        4 => {
+            format!("slot {place} is neither free nor used, or repeats the name of a lower slot")
+        }
         5 => format!("slot {place} has an inode with a size or a block number out of range"),
         6 => format!("block {place} is claimed twice"),
         _ => format!("block {place} has a map bit that differs from its use"),

@@ -112,3 +112,28 @@ fn force_makes_a_new_volume() {
     assert_eq!(folder.tfs("free v").text(), "0\n");
     assert_eq!(folder.names(), ["v"]);
 }
+
+#[test]
+fn leftovers_are_ignored_and_kept() {
+    let folder = Folder::new("leftovers");
+    folder.tfs("make v --size 64K").granted();
+    folder.write("TIMING", &some(1000));
+    folder.tfs("put v TIMING").granted();
+    let mut image = folder.read("v");
+    image[1035..1044].copy_from_slice(b"old bytes");
+    image[1049..1064].copy_from_slice(b"all of 15 bytes");
+    folder.write("v", &image);
+
+    assert_eq!(folder.tfs("check v").text(), "consistent\n");
+    assert_eq!(folder.tfs("list v").text(), " 0    3  1000 TIMING\n");
+    assert!(folder.tfs("get v TIMING -").granted() == some(1000));
+    folder.tfs("put v TIMING --name new").granted();
+    assert_eq!(&folder.read("v")[1024..1044], &image[1024..1044]);
+    assert_eq!(
+        folder.tfs("list v").text(),
+        " 0    3  1000 TIMING\n 1    6  1000 new\n"
+    );
+    folder.tfs("remove v TIMING").granted();
+    assert_eq!(folder.read("v")[1024..1044], [0; 20]);
+    assert_eq!(folder.tfs("list v").text(), " 1    6  1000 new\n");
+}

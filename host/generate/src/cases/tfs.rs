@@ -7,8 +7,8 @@ use super::case::Case;
 use super::drawn::Drawn;
 use super::tfs_arguments::{size, tfs_arguments};
 use crate::tfs::{
-    any_volume, change_case, damage_volume, damage_volume_twice, scramble_volume, volume, File,
-    Shape, Volume,
+    any_volume, change_case, damage_slot, damage_volume, damage_volume_twice, has_leftovers,
+    scramble_volume, volume, File, Shape, SlotFault, Volume,
 };
 use crate::Random;
 
@@ -27,9 +27,9 @@ const OTHERS: [Request; 10] = [
 
 /// Draws cases on TFS volumes: a check of every image, other requests on some of them.
 ///
-/// Every answer of every request comes up once before the rest is left to chance. Volumes have
-/// 40 blocks at most, but about one in fifty has 129 to 133; with `large` the last few cases
-/// are on a volume of 4096 blocks.
+/// Every answer of every request, and every way to break a slot, comes up before the rest is left
+/// to chance. Volumes have 40 blocks at most, but about one in fifty has 129 to 133; with `large`
+/// the last few cases are on a volume of 4096 blocks.
 pub fn tfs_cases(seed: u64, count: usize, large: bool) -> Vec<Case> {
     let mut drawn = Drawn::new(seed);
     let last = if large {
@@ -96,11 +96,11 @@ fn damaged(random: &mut Random, made: &Volume) -> Option<Vec<u8>> {
     match random.below(20) {
         0..=8 => None,
         9..=13 => {
-            let rule = random.pick(&[1, 2, 3, 4, 4, 5, 5, 6, 6, 6, 7, 7]);
+            let rule = random.pick(&[1, 2, 3, 4, 4, 4, 4, 5, 5, 6, 6, 6, 7, 7]);
             damage_volume(random, made, rule).map(|(image, _)| image)
         }
         14..=16 => {
-            let rules = [2, 3, 4, 4, 5, 5, 6, 6, 6, 7, 7];
+            let rules = [2, 3, 4, 4, 4, 5, 5, 6, 6, 6, 7, 7];
             let rules = (random.pick(&rules), random.pick(&rules));
             damage_volume_twice(random, made, rules).map(|(image, _)| image)
         }
@@ -132,13 +132,14 @@ fn add(drawn: &mut Drawn, request: Request, number: u32, name: &[u8], image: &[u
 fn one_of_each(drawn: &mut Drawn) {
     let (made, file, gone) = volume_with_past(&mut drawn.random);
     let image = &made.image;
+    let free = made.free_slot().unwrap_or(SLOTS);
     drawn.add_plain(Request::TfsCheck, image);
     names(drawn, &file, image);
     for name in names_around(&file, &gone) {
         transfers(drawn, &name, file.size, image);
     }
-    for slot in [file.slot as u32, SLOTS as u32] {
-        add(drawn, Request::TfsList, slot, b"", image);
+    for slot in [file.slot, free, SLOTS] {
+        add(drawn, Request::TfsList, slot as u32, b"", image);
     }
     drawn.add_plain(Request::TfsFree, image);
     drawn.add_plain(Request::TfsFormat, &image[..3 * BLOCK_SIZE - 1]);
@@ -146,15 +147,22 @@ fn one_of_each(drawn: &mut Drawn) {
     drawn.add_plain(Request::TfsCheck, &crowded.image);
     crowd(drawn, &crowded);
     faults(drawn, &made);
+    slot_faults(drawn, &made);
+    slot_faults(drawn, &crowded);
 }
 
-/// A small volume, a file of it that has content and a name of some letters, and one that is gone.
+/// A small volume of several files, one that has content and a name of some letters, and one that
+/// is gone. Leftovers stand behind that name and in the free slot that a create takes.
 fn volume_with_past(random: &mut Random) -> (Volume, File, File) {
     loop {
         let made = volume(random, Shape::Lived, 12);
+        let left = |slot| has_leftovers(&made.image, slot);
+        if made.files.len() < 2 || !made.free_slot().is_some_and(left) {
+            continue;
+        }
         let worded = |file: &&File| {
             let letters = file.name.iter().all(u8::is_ascii_alphabetic);
-            letters && (3..15).contains(&file.name.len()) && file.size > 0
+            letters && (3..15).contains(&file.name.len()) && file.size > 0 && left(file.slot)
         };
         let stands = |name: &[u8]| made.files.iter().any(|file| file.name == name);
         let file = made.files.iter().find(worded).cloned();
@@ -224,6 +232,15 @@ fn faults(drawn: &mut Drawn, made: &Volume) {
             }
         };
         drawn.add_plain(Request::TfsCheck, &damaged);
+    }
+}
+
+/// Adds some checks for each way to break a slot.
+fn slot_faults(drawn: &mut Drawn, made: &Volume) {
+    for way in SlotFault::ALL.repeat(4) {
+        if let Some((damaged, _)) = damage_slot(&mut drawn.random, made, way) {
+            drawn.add_plain(Request::TfsCheck, &damaged);
+        }
     }
 }
 

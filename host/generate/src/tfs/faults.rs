@@ -1,11 +1,14 @@
 //! Volumes with faults of a known number and place.
 
+mod slots;
+
 use reference::tfs::{BLOCK_SIZE, LARGEST_FILE, SLOTS};
 use reference::Refusal;
 
 use super::made::{File, Volume};
 use super::volume::map_byte;
 use crate::Random;
+pub use slots::SlotFault;
 
 /// Breaks one of the rules 1 to 7 and gives the image with the answer that a check owes it.
 ///
@@ -18,6 +21,17 @@ pub fn damage_volume(
     let mut damage = Damage::new(volume);
     let fault = damage.strike(random, rule)?;
     Some((damage.image, fault))
+}
+
+/// Breaks rule 4 in a given way, as far as the volume has the files or the free slot for it.
+pub fn damage_slot(
+    random: &mut Random,
+    volume: &Volume,
+    way: SlotFault,
+) -> Option<(Vec<u8>, Refusal)> {
+    let mut damage = Damage::new(volume);
+    let slot = damage.break_slot_by(random, way)?;
+    Some((damage.image, Refusal::at(4, slot)))
 }
 
 /// Breaks two rules, or one at two places, and gives the image with the answer owed to it.
@@ -145,57 +159,6 @@ impl<'a> Damage<'a> {
         ])
     }
 
-    fn break_slot(&mut self, random: &mut Random) -> Option<u32> {
-        let files = self.files();
-        let free = self.free_slots();
-        if !files.is_empty() && (free.is_empty() || random.below(3) > 0) {
-            return Some(self.break_used_slot(random, &files));
-        }
-        let slot = random.choose(&free)?;
-        let at = Self::slot_at(slot);
-        match random.below(4) {
-            0 => self.set(at, 3),
-            1 => self.image[at + 4] = random.nonzero(),
-            2 => self.image[at + 19] = random.nonzero(),
-            _ => {
-                let other = at + random.below(20);
-                self.image[other] = random.nonzero();
-            }
-        }
-        self.taken.push(slot);
-        Some(slot as u32)
-    }
-
-    fn break_used_slot(&mut self, random: &mut Random, files: &[&File]) -> u32 {
-        if files.len() > 1 && random.one_in(3) {
-            let lower = random.below(files.len() - 1);
-            let higher = random.between(lower + 1, files.len() - 1);
-            let (lower, higher) = (files[lower].slot, files[higher].slot);
-            let name = Self::slot_at(lower) + 4;
-            self.image
-                .copy_within(name..name + 16, Self::slot_at(higher) + 4);
-            self.taken.extend([lower, higher]);
-            return higher as u32;
-        }
-        let file = random.pick(files);
-        let at = Self::slot_at(file.slot);
-        let length = file.name.len();
-        match random.below(4) {
-            0 => {
-                let wrong = self.outside(random);
-                self.set(at, wrong);
-            }
-            1 => self.image[at + 4] = 0,
-            2 if length < 15 => {
-                let behind = at + 4 + random.between(length + 1, 15);
-                self.image[behind] = random.nonzero();
-            }
-            _ => (length..16).for_each(|index| self.image[at + 4 + index] = random.nonzero()),
-        }
-        self.taken.push(file.slot);
-        file.slot as u32
-    }
-
     fn break_inode(&mut self, random: &mut Random) -> Option<u32> {
         let file = random.choose(&self.files())?;
         let inode = file.inode as usize * BLOCK_SIZE;
@@ -263,6 +226,7 @@ impl<'a> Damage<'a> {
         self.set(at, other.inode);
         // Fifteen bytes above 7F hex, as no generated file has for a name.
         self.image[at + 4..at + 19].fill_with(|| random.nonzero() | 0x80);
+        self.image[at + 19] = 0;
         self.taken.extend([slot, other.slot]);
         lowest
     }

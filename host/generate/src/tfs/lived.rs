@@ -2,11 +2,13 @@
 
 use reference::tfs::{self, BLOCK_SIZE, SLOTS};
 
+use super::leftovers;
 use super::made::Volume;
 use super::sizes::some_size;
 use crate::Random;
 
-/// A volume that creates, removes and writes have made of noise and a format.
+/// A volume that creates, removes and writes have made of noise and a format, while something
+/// else may have left bytes behind names and in free slots.
 pub(super) fn lived(random: &mut Random, noise: Vec<u8>, blocks: usize) -> Volume {
     let mut image = noise;
     let length = random.between(0, 15);
@@ -14,7 +16,11 @@ pub(super) fn lived(random: &mut Random, noise: Vec<u8>, blocks: usize) -> Volum
     let formatted = tfs::format(&mut image, &label);
     debug_assert_eq!(formatted, Ok(()));
     let mut made = Volume::empty(blocks);
+    let leaving = !random.one_in(3);
     for _ in 0..random.between(2, 40) {
+        if leaving && random.one_in(4) {
+            leftovers::put(random, &mut image, &made.files, &made.gone);
+        }
         if made.files.is_empty() || random.below(5) < 2 {
             create(random, &mut made, &mut image);
         } else if random.one_in(2) {

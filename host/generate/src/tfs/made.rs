@@ -7,7 +7,7 @@ use reference::tfs::{BLOCK_SIZE, SLOTS};
 pub struct File {
     /// The slot of the directory that holds the file.
     pub slot: usize,
-    /// The name without the zeros behind it.
+    /// The name up to its zero.
     pub name: Vec<u8>,
     /// The inode number.
     pub inode: u32,
@@ -41,13 +41,18 @@ impl Volume {
         }
     }
 
+    /// The lowest slot without a file, which a create takes.
+    pub(crate) fn free_slot(&self) -> Option<usize> {
+        let used = |slot: &usize| self.files.iter().any(|file| file.slot == *slot);
+        (0..SLOTS).find(|slot| !used(slot))
+    }
+
     /// Takes note of a file that was created; the image is the one after that.
     pub fn created(&mut self, image: &[u8], name: &[u8], inode: u32, size: u32) {
-        let used = |slot: &usize| self.files.iter().any(|file| file.slot == *slot);
         let inode_words = image[inode as usize * BLOCK_SIZE..].as_chunks().0.iter();
         let numbers = inode_words.skip(1).map(|word| u32::from_be_bytes(*word));
         self.files.push(File {
-            slot: (0..SLOTS).find(|slot| !used(slot)).unwrap_or(SLOTS),
+            slot: self.free_slot().unwrap_or(SLOTS),
             name: name.to_vec(),
             inode,
             size,

@@ -2,6 +2,7 @@
 
 use reference::tfs::{BLOCK_SIZE, LARGEST_FILE, MAGIC, MOST_BLOCKS, SLOTS};
 
+use super::leftovers;
 use super::lived::lived;
 use super::made::{File, Volume};
 use super::names::similar;
@@ -35,6 +36,9 @@ pub fn volume(random: &mut Random, shape: Shape, blocks: usize) -> Volume {
     let files = plan(random, shape, blocks);
     let mut image = canvas(random, blocks);
     draw(random, &mut image, blocks, &files);
+    if !random.one_in(3) {
+        leftovers::put(random, &mut image, &files, &[]);
+    }
     Volume {
         image,
         blocks,

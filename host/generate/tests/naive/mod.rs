@@ -33,12 +33,16 @@ fn slot(image: &[u8], s: usize) -> &[u8] {
 }
 
 fn is_free(slot: &[u8]) -> bool {
-    slot.iter().all(|&byte| byte == 0)
+    number(slot, 0) == 0 && slot[4] == 0
 }
 
 fn is_used(slot: &[u8], n: usize) -> bool {
-    (3..n).contains(&number(slot, 0))
-        && (1..=15).any(|length| (0..16).all(|index| (slot[4 + index] != 0) == (index < length)))
+    (3..n).contains(&number(slot, 0)) && slot[4] != 0 && (4..20).any(|at| slot[at] == 0)
+}
+
+/// Whether two names are the same up to and with a zero at the same place.
+fn same_name(one: &[u8], other: &[u8]) -> bool {
+    (0..16).any(|zero| (one[zero], other[zero]) == (0, 0) && one[..zero] == other[..zero])
 }
 
 /// Rule 4: each slot is free or used, and no name stands twice.
@@ -47,7 +51,7 @@ fn slot_fault(image: &[u8], n: usize) -> Fault {
     for s in 0..25 {
         let free = is_free(slot(image, s));
         let used = is_used(slot(image, s), n);
-        if !free && (!used || (0..s).any(|lower| name(lower) == name(s))) {
+        if !free && (!used || (0..s).any(|lower| same_name(name(lower), name(s)))) {
             return Some((4, s as u32));
         }
     }

@@ -14,7 +14,7 @@ pub enum Listing<'a> {
     Free,
     /// The slot holds a file.
     Used {
-        /// The name without the zeros behind it.
+        /// The name up to its zero.
         name: &'a [u8],
         /// The inode number.
         inode: u32,

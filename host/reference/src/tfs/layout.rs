@@ -82,11 +82,10 @@ impl Name {
         Self::padded(bytes)
     }
 
-    /// Takes the name of a file out of a slot.
-    fn stored(field: [u8; 16]) -> Option<Self> {
+    /// Takes the name of a file out of a slot: the bytes up to the first zero.
+    fn stored(field: &[u8]) -> Option<Self> {
         let length = field.iter().position(|&byte| byte == 0)?;
-        let sound = length > 0 && field[length..].iter().all(|&byte| byte == 0);
-        sound.then_some(Self(field))
+        Self::of_file(&field[..length])
     }
 
     pub(super) fn field(&self) -> &[u8; 16] {
@@ -103,16 +102,18 @@ pub(super) enum Slot {
 
 impl Slot {
     /// Decodes a slot of a volume of `count` blocks, or gives nothing if it is unsound.
+    ///
+    /// The bytes behind the first zero of the name are leftovers and mean nothing.
     pub(super) fn decode(raw: &RawSlot, count: usize) -> Option<Self> {
-        if *raw == [0; 20] {
-            return Some(Self::Free);
-        }
         let (inode, field) = raw.split_first_chunk::<4>()?;
         let inode = u32::from_be_bytes(*inode);
+        if inode == 0 && field[0] == 0 {
+            return Some(Self::Free);
+        }
         if !is_data_block(inode, count) {
             return None;
         }
-        let name = Name::stored(field.try_into().ok()?)?;
+        let name = Name::stored(field)?;
         Some(Self::Used { inode, name })
     }
 

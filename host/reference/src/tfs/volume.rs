@@ -57,7 +57,7 @@ impl<'a> Volume<'a> {
         self.slots.get(index).copied()
     }
 
-    /// The bytes of the name in a used slot.
+    /// The bytes of the name in a used slot, up to its zero.
     pub(super) fn name(&self, index: usize) -> &'a [u8] {
         let field = &slots(&self.blocks[DIRECTORY])[index][4..];
         let length = field.iter().position(|&byte| byte == 0);

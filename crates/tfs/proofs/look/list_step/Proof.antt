@@ -9,7 +9,7 @@ use borrow.Author.Needs.{needs}
 use Rattle.tfs_spec.specs.Requests.{file}
 use Rattle.tfs_steps.specs.Ready.{long}
 use Rattle.tfs.specs.Told.{listedName}
-use Rattle.tfs.specs.List.{list-past, list-free, list-inside, list-file, name-back}
+use Rattle.tfs.specs.List.{list-past, list-free, list-inside, list-named, list-file, name-back}
 use Rattle.tfs.proofs.look.list_step.Statement.{statement}
 use Rattle.tfs.proofs.look.list_step.Tie as tie
 
@@ -43,12 +43,16 @@ returns-3 c =
     let inode = number .slot-inode in
     let part = number .before .before .before in
     let start = part .before .before .before in
+    let named =
+    list-named (now (start .args .image)) _ (start .args .slot) (part .dir-of .ensures .0) (part .before .if1 .left) (start .pre)
+    (sym (number .before .before .slot-free .ensures) ∙ number .before .if2 .left) (inode .result) (inode .ensures)
+    in
     let e =
     list-file (now (start .args .image)) _ (start .args .slot) (part .dir-of .ensures .0) (part .before .if1 .left) (start .pre)
     (sym (number .before .before .slot-free .ensures) ∙ number .before .if2 .left) (inode .result) (inode .ensures) (size .result) (size .ensures)
     in
     let n = ap (take (length .result)) (c .slot-name .ensures) ∙ name-back _ (length .result) (length .ensures .0) (length .ensures .1) in
-    (ap (λ (x : List ℕ). file x (inode .result) (size .result)) n ∙ e, c .slot-name .ensures ∙ ap listedName e, length .ensures .1)
+    (ap (λ (x : List ℕ). file x (inode .result) (size .result)) n ∙ e, c .slot-name .ensures ∙ ap listedName e, (omega (arith, length .ensures .0, named .0), omega (arith, length .ensures .0, named .1)))
 
 pub list-step-spec : {M : Type 1} → statement M
 list-step-spec =
