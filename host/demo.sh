@@ -4,18 +4,18 @@ set -euo pipefail
 cd "$(dirname "$0")/.."
 
 echo "Building (the proofs are checked first: some minutes on a fresh machine)"
-for library in tfs_c romfs_c; do
+for library in tfs_c tfs_trace_c romfs_c; do
     rt staticlib "$library" 2>&1 | tail -n 1
 done
 (cd host && cargo build --quiet --release --offline)
-gcc -std=c99 -O2 -Iinclude host/example/example.c target/staticlib/libtfs_c.a target/staticlib/libromfs_c.a -o target/example
+gcc -std=c99 -O2 -Iinclude host/example/example.c -Ltarget/staticlib -ltfs_trace_c -ltfs_c -lromfs_c -o target/example
 
 folder=$(mktemp -d)
 trap 'rm -rf "$folder"' EXIT
 tool=$PWD/host/target/release/tfs
 cd "$folder"
 
-# Shows a command, then runs it; a refusal is part of the show.
+# Shows a command, then runs it; a refusal does not end the script.
 show() {
     echo
     echo "\$ tfs $*"
@@ -29,6 +29,17 @@ show list pump.img
 show free pump.img
 show get pump.img TIMING -
 show dump pump.img slot 0
+
+echo
+echo "A session on another volume is recorded, and replayed on the volume as it was."
+show make bench.img --size 64K
+cp bench.img start.img
+show put bench.img timing.txt --name TIMING --record session.trace
+show remove bench.img RATES --record session.trace
+show free bench.img --record session.trace
+show trace show session.trace
+show replay start.img session.trace
+show replay bench.img session.trace
 
 echo
 echo "One bit of the map is damaged: block 4 is marked free."

@@ -7,7 +7,7 @@
 # (0.5.2), python3 for a socket, and no other right than to make files. Trees are built in a temporary folder.
 #
 # What is expected comes from the trees and from the listing that genromfs prints of its work (-v), which has the offset of
-# each header. Which of two hard-linked names is the file depends on the order in which the folder hands out its names, so
+# each header. Which of two hard-linked names is the file depends on the order in which the host lists the names of a folder, so
 # another machine may pack other images.
 #
 # The packed file: a number is four bytes, the most significant first; bytes are a number, which is their count, and then

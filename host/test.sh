@@ -27,18 +27,27 @@ part() {
 
 example() {
     gcc -std=c99 -Wall -Wextra -pedantic -Werror -O2 -I../include example/example.c \
-        -L"$libraries" -ltfs_c -lromfs_c -o "$work/example" &&
+        -L"$libraries" -ltfs_trace_c -ltfs_c -lromfs_c -o "$work/example" &&
         "$work/example" >"$work/printed" &&
         diff -u example/expected.txt "$work/printed"
 }
 
 # Fails where a request uses more stack than the headers say.
 stack() {
-    gcc -std=gnu99 -Wall -Wextra -Werror -O2 -I../include bench/stack.c -L"$libraries" -ltfs_c -lromfs_c -lpthread \
-        -Wl,-z,now -o "$work/stack" && "$work/stack"
+    gcc -std=gnu99 -Wall -Wextra -Werror -O2 -I../include bench/stack.c -L"$libraries" -ltfs_trace_c -ltfs_c -lromfs_c \
+        -lpthread -Wl,-z,now -o "$work/stack" && "$work/stack"
 }
 
-for name in tfs_c romfs_c; do
+# The proved program over pairs of files.
+program() {
+    if [ ! -x ../target/bin/replay ]; then
+        echo "target/bin/replay is missing; it is made by: rt check replay"
+        return 1
+    fi
+    cargo test --offline -p program
+}
+
+for name in tfs_c tfs_trace_c romfs_c; do
     if [ ! -f "$libraries/lib$name.a" ]; then
         echo "host tests: target/staticlib/lib$name.a is missing; it is made by: rt staticlib $name"
         failed=1
@@ -47,7 +56,8 @@ done
 [ $failed = 0 ] || exit 1
 
 part "build" cargo build --release --offline
-part "tests" cargo test --offline
+part "tests" cargo test --offline --workspace --exclude program
+part "program replay" program
 part "C example" example
 part "stack use" stack
 part "comparison" target/release/compare --seconds 5

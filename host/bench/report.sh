@@ -10,14 +10,14 @@ trap 'rm -rf "$work"' EXIT
 cksum "$libraries"/*.a >"$work/before"
 
 cargo build --release --offline --quiet
-gcc -std=gnu99 -Wall -Wextra -O2 -I../../include stack.c -L"$libraries" -ltfs_c -lromfs_c -lpthread -Wl,-z,now \
-    -o "$work/stack"
+gcc -std=gnu99 -Wall -Wextra -O2 -I../../include stack.c -L"$libraries" -ltfs_trace_c -ltfs_c -lromfs_c -lpthread \
+    -Wl,-z,now -o "$work/stack"
 
 cat <<'TEXT'
 # Benchmarks
 
-Printed by `host/bench/report.sh`, which needs the static libraries (`rt staticlib tfs_c`, `rt staticlib romfs_c`). Nothing in
-the tests depends on a time.
+Printed by `host/bench/report.sh`, which needs the static libraries (`rt staticlib` of `tfs_c`, `tfs_trace_c` and `romfs_c`).
+Nothing in the tests depends on a time.
 
 - *proved*: the request through its C interface, from the static library.
 - *reference*: the same request of `host/reference`, in Rust with `--release`.
@@ -30,6 +30,9 @@ Times less the check are differences of two measurements, and vary most from run
 
 A volume of 2 MiB is full when its 25 slots are used: 25 files of 65,024 bytes have 3,200 of its 4,093 blocks. There, create and
 remove are timed as remove and create. Leftovers, where there are any, fill the name bytes behind the first zero of every slot.
+
+A replay checks the volume once; *one by one* is the same requests as separate calls of the proved library, each with its check,
+and with no comparison of the answers.
 TEXT
 
 echo
@@ -42,12 +45,14 @@ echo "## Time"
 echo
 echo "## Code size"
 echo
-echo "\`size\` of the static libraries; libtfs_c.a needs \`memcpy\` and \`memset\`, libromfs_c.a \`memset\`, and nothing else."
+echo "\`size\` of the static libraries, and what they need of the program that links them."
 echo
-echo "| library | code and constants | data | zeroed data |"
-echo "|---|---:|---:|---:|"
-for name in tfs_c romfs_c; do
-    size -t "$libraries/lib$name.a" | awk -v name="lib$name.a" 'END { print "| " name " | " $1 " | " $2 " | " $3 " |" }'
+echo "| library | code and constants | data | zeroed data | needs |"
+echo "|---|---:|---:|---:|---|"
+for name in tfs_c tfs_trace_c romfs_c; do
+    needs=$(nm -u "$libraries/lib$name.a" | awk '$1 == "U" { print $2 }' | sort -u | paste -sd ' ')
+    size -t "$libraries/lib$name.a" |
+        awk -v name="lib$name.a" -v needs="$needs" 'END { print "| " name " | " $1 " | " $2 " | " $3 " | " needs " |" }'
 done
 cat <<'TEXT'
 

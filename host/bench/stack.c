@@ -1,6 +1,6 @@
-/* How much stack each request uses: it runs on a thread whose stack is painted, and the paint that is gone is measured.
- * The same for a thread that does nothing is taken off. Prints a table in Markdown; exit status 1 if a request uses more
- * than the headers say. */
+/* How much stack each request uses: it runs on a thread whose stack is filled with one byte value, and the bytes
+ * from the first one that has changed to the top are counted, less those of a thread that does nothing. Prints a table
+ * in Markdown; exit status 1 if a request uses more than the headers say. */
 #define _GNU_SOURCE
 #include <pthread.h>
 #include <stdio.h>
@@ -9,16 +9,20 @@
 
 #include "romfs.h"
 #include "tfs.h"
+#include "tfs_trace.h"
 
 #define STACK (256 * 1024)
 #define PAINT 0xA5
-#define TFS_MOST (4 * 1024)    /* as tfs.h says */
+#define TFS_MOST (4 * 1024)    /* as tfs.h and tfs_trace.h say */
 #define ROMFS_MOST (16 * 1024) /* as romfs.h says */
 #define VOLUME (TFS_MAX_BLOCKS * TFS_BLOCK_SIZE)
 #define DEEPEST 8
 
 static uint8_t image[VOLUME], buffer[TFS_MAX_FILE], rom[32 * (DEEPEST + 2)];
 static uint8_t file[] = "A", link_name[] = "link", other[] = "NEW";
+/* A record of each kind, the last a read of the whole file; their numbers have five groups where they may. */
+static uint8_t trace[TFS_MAX_FILE + 256], out[256];
+static size_t trace_length;
 static volatile uint32_t answer;
 
 /* ---- the volume and the image */
@@ -72,6 +76,40 @@ static void make_volume(void)
         tfs_create(image, VOLUME, &name, 1, TFS_MAX_FILE);
 }
 
+/* Adds a record to the trace. */
+static void add(tfs_entry entry, const uint8_t *name, size_t name_length, size_t bytes_length)
+{
+    trace_length += tfs_trace_write(trace + trace_length, sizeof trace - trace_length, entry, name, name_length, buffer,
+                                    bytes_length)
+                        .length;
+}
+
+/* A create, a write, a read and a remove of a new file, free bytes, then a read into the longest buffer. */
+static void make_trace(void)
+{
+    tfs_entry entry = {0};
+
+    entry.kind = TFS_CREATE;
+    entry.size = TFS_MAX_FILE;
+    add(entry, other, 3, 0);
+    entry.kind = TFS_WRITE;
+    entry.refusal = TFS_OFFSET_PAST_END;
+    entry.offset = UINT32_MAX;
+    add(entry, other, 3, 64);
+    entry.kind = TFS_READ;
+    entry.length = UINT32_MAX;
+    add(entry, other, 3, 0);
+    entry.refusal = 0;
+    entry.kind = TFS_REMOVE;
+    add(entry, other, 3, 0);
+    entry.kind = TFS_FREE_BYTES;
+    entry.value = tfs_free_bytes(image, VOLUME).value;
+    add(entry, other, 0, 0);
+    entry.kind = TFS_READ;
+    entry.offset = 0;
+    add(entry, file, 1, TFS_MAX_FILE);
+}
+
 /* ---- the requests */
 
 #define REQUEST(name, call)                                                                                            \
@@ -80,9 +118,16 @@ static void make_volume(void)
         answer = (call).refusal;                                                                                       \
     }
 
+static const tfs_entry largest = {TFS_WRITE, 0, UINT32_MAX, 0, 0, UINT32_MAX};
+
 static void nothing(void)
 {
     answer = 0;
+}
+
+static void run_replay(void)
+{
+    answer = tfs_replay(image, VOLUME, trace, trace_length).outcome != TFS_ALL_REPLAYED;
 }
 
 REQUEST(run_format, tfs_format(buffer, sizeof buffer, other, 3))
@@ -93,6 +138,8 @@ REQUEST(run_read, tfs_read(image, VOLUME, file, 1, 0, buffer, sizeof buffer))
 REQUEST(run_write, tfs_write(image, VOLUME, file, 1, 0, buffer, sizeof buffer))
 REQUEST(run_list, tfs_list(image, VOLUME, 24))
 REQUEST(run_free_bytes, tfs_free_bytes(image, VOLUME))
+REQUEST(run_record_read, tfs_trace_read(trace, trace_length, 0).entry)
+REQUEST(run_record_write, tfs_trace_write(out, sizeof out, largest, other, 3, buffer, 64))
 REQUEST(run_rom_check, romfs_check(rom, sizeof rom))
 REQUEST(run_rom_find, romfs_find(rom, sizeof rom, 32 * (DEEPEST - 1), link_name, 4))
 REQUEST(run_rom_entry, romfs_entry(rom, sizeof rom, 32 * (DEEPEST + 1)))
@@ -102,10 +149,21 @@ static const struct {
     const char *name;
     void (*run)(void);
 } requests[] = {
-    {"TFS format", run_format},   {"TFS check", run_check},           {"TFS create", run_create},
-    {"TFS remove", run_remove},   {"TFS read", run_read},             {"TFS write", run_write},
-    {"TFS list", run_list},       {"TFS free bytes", run_free_bytes}, {"romfs check", run_rom_check},
-    {"romfs find", run_rom_find}, {"romfs entry", run_rom_entry},     {"romfs content", run_rom_content},
+    {"TFS format", run_format},
+    {"TFS check", run_check},
+    {"TFS create", run_create},
+    {"TFS remove", run_remove},
+    {"TFS read", run_read},
+    {"TFS write", run_write},
+    {"TFS list", run_list},
+    {"TFS free bytes", run_free_bytes},
+    {"TFS record read", run_record_read},
+    {"TFS record written", run_record_write},
+    {"TFS replay", run_replay},
+    {"romfs check", run_rom_check},
+    {"romfs find", run_rom_find},
+    {"romfs entry", run_rom_entry},
+    {"romfs content", run_rom_content},
 };
 
 /* ---- the measurement */
@@ -116,7 +174,7 @@ static void *on_thread(void *request)
     return NULL;
 }
 
-/* The bytes of a painted stack that a request has changed, from the top down. */
+/* The bytes of a filled stack from the lowest one that a request has changed to the top. */
 static size_t depth(void (*request)(void))
 {
     static uint8_t stack[STACK] __attribute__((aligned(4096)));
@@ -141,6 +199,7 @@ int main(void)
     int failed = 0;
 
     make_volume();
+    make_trace();
     make_rom();
     printf("| request | bytes of stack |\n|---|---:|\n");
     for (size_t i = 0; i < sizeof requests / sizeof requests[0]; i++) {

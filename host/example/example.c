@@ -1,9 +1,12 @@
-/* The main job of both libraries: a TFS volume is made, used and damaged, and a romfs image is read. */
+/* The main job of the libraries: a TFS volume is made, used and damaged, requests on it are recorded and replayed,
+ * and a romfs image is read. */
 #include <stdio.h>
+#include <stdlib.h>
 #include <string.h>
 
 #include "romfs.h"
 #include "tfs.h"
+#include "tfs_trace.h"
 
 #define TEXT(s) (const uint8_t *)(s), strlen(s)
 
@@ -14,6 +17,7 @@ static void say_refusal(uint32_t refusal, uint32_t place)
 
     printf("refused %lu: ", (unsigned long)refusal);
     switch (refusal) {
+    case TFS_BAD_MAGIC: printf("wrong magic number\n"); break;
     case TFS_BLOCK_TWICE: printf("block %lu is claimed twice\n", p); break;
     case TFS_MAP_WRONG: printf("the map is wrong at block %lu\n", p); break;
     case TFS_NO_SUCH_NAME: printf("no file of that name\n"); break;
@@ -98,6 +102,73 @@ static void use_name_again(uint8_t *image, size_t length)
     value("read TIMING, count", tfs_read(image, length, TEXT("TIMING"), 6, buffer, sizeof buffer));
 }
 
+/* Writes a request and its answer behind the records of a trace, and gives the trace's new length. Ends the program if
+ * the record does not fit: a trace without it could not be replayed. */
+static size_t record(uint8_t *trace, size_t length, size_t room, tfs_entry entry, tfs_result answer, const char *name,
+                     const char *bytes)
+{
+    tfs_written written;
+
+    entry.refusal = answer.refusal;
+    entry.value = answer.value;
+    written = tfs_trace_write(trace + length, room - length, entry, TEXT(name), TEXT(bytes));
+    if (written.refusal != 0) {
+        fprintf(stderr, "record not written: refused %lu\n", (unsigned long)written.refusal);
+        exit(EXIT_FAILURE);
+    }
+    return length + (size_t)written.length;
+}
+
+static void say_replayed(const char *volume, tfs_replayed r)
+{
+    static const char *const outcomes[] = {"records replayed", "malformed record", "differing record"};
+
+    if (r.outcome == TFS_REPLAY_REFUSED)
+        say_done(volume, (uint32_t)r.refusal, (uint32_t)r.place);
+    else
+        printf("%s: %s %lu\n", volume, outcomes[r.outcome], (unsigned long)r.number);
+}
+
+/* Two requests, recorded as they are made; the length of the trace. */
+static size_t record_two(uint8_t *image, size_t length, uint8_t *trace, size_t room)
+{
+    tfs_entry create = {0}, write = {0};
+    tfs_result answer;
+    size_t end;
+
+    create.kind = TFS_CREATE;
+    create.size = 4;
+    answer = tfs_create(image, length, TEXT("LOG"), 4);
+    end = record(trace, 0, room, create, answer, "LOG", "");
+    write.kind = TFS_WRITE;
+    write.offset = 2;
+    answer = tfs_write(image, length, TEXT("LOG"), 2, TEXT("on/off"));
+    return record(trace, end, room, write, answer, "LOG", "on/off");
+}
+
+/* They are replayed on the volume as it was before them, and as it is after. */
+static void record_and_replay(uint8_t *image, size_t length)
+{
+    static uint8_t before[65536];
+    uint8_t trace[64];
+    size_t end;
+    tfs_record first;
+
+    memcpy(before, image, length);
+    end = record_two(image, length, trace, sizeof trace);
+    printf("trace of two requests: %lu bytes\n", (unsigned long)end);
+    first = tfs_trace_read(trace, end, 0);
+    printf("first record: kind %lu, name %.*s, size %lu; the next at byte %lu\n", (unsigned long)first.entry.kind,
+           (int)first.name_length, (const char *)trace + first.name_at, (unsigned long)first.entry.size,
+           (unsigned long)first.next);
+    say_replayed("replay on the volume as it was", tfs_replay(before, length, trace, end));
+    printf("both volumes are %s\n", memcmp(before, image, length) == 0 ? "the same" : "different");
+    say_replayed("replay on the volume as it is", tfs_replay(before, length, trace, end));
+    say_replayed("replay of a trace cut off", tfs_replay(before, length, trace, 3));
+    before[0] = 1;
+    say_replayed("replay on a damaged volume", tfs_replay(before, length, trace, end));
+}
+
 /* The volume "V" with an empty regular file "a". */
 static void read_rom(void)
 {
@@ -129,6 +200,7 @@ int main(void)
     use_volume(image, sizeof image);
     damage_volume(image, sizeof image);
     use_name_again(image, sizeof image);
+    record_and_replay(image, sizeof image);
     read_rom();
     return 0;
 }

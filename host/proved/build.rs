@@ -1,10 +1,10 @@
-//! Links the static libraries that `rt staticlib tfs_c` and `rt staticlib romfs_c` write.
+//! Links the static libraries that `rt staticlib` writes of `tfs_c`, `tfs_trace_c` and `romfs_c`.
 use std::path::Path;
 
 fn main() {
     let folder = Path::new(env!("CARGO_MANIFEST_DIR")).join("../../target/staticlib");
     println!("cargo:rustc-link-search=native={}", folder.display());
-    for name in ["tfs_c", "romfs_c"] {
+    for name in ["tfs_trace_c", "tfs_c", "romfs_c"] {
         println!("cargo:rustc-link-lib=static={name}");
         println!("cargo:rerun-if-changed={}/lib{name}.a", folder.display());
     }

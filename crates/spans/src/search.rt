@@ -1,5 +1,6 @@
 // Searches and tests of every byte.
 ghost use mathlib.Core.Path.{_≡_};
+ghost use lib.ListN.{length};
 ghost use Rattle.lists.specs.Lists.{sameList, firstZero};
 
 // The index of the first zero byte, or the length.
@@ -31,4 +32,20 @@ pub fn same(a: &[u8], b: &[u8]) -> bool
         i += 1;
     }
     true
+}
+
+// The same of long spans of one length: no byte is left out, so that many are compared at a time.
+pub fn same_long(a: &[u8], b: &[u8]) -> bool
+    requires { ⌜ length (now a) ≡ length (now b) ⌝ }
+    ensures { λ r. ⌜ r ≡ sameList (now (a .entry)) (now (b .entry)) ⌝ }
+{
+    let mut differ = 0u8;
+    let mut i = 0;
+    while i < a.len() {
+        if a[i] != b[i] {
+            differ = 1;
+        }
+        i += 1;
+    }
+    differ == 0
 }

@@ -5,6 +5,7 @@ use lib.ListN.{take}
 use Rattle.lists.specs.Lists.{zeros, padTo}
 use Rattle.tfs_spec.specs.Check.{Verdict, consistent, broken}
 use Rattle.tfs_spec.specs.Requests as rules
+use Rattle.tfs_spec.specs.Replays as replays
 use Rattle.tfs.specs.declared.Fault.{Fault}
 use Rattle.tfs.specs.declared.Fault.the-variants.{Header, Slot, Block}
 use Rattle.tfs.specs.declared.CheckAnswer.{CheckAnswer}
@@ -16,6 +17,8 @@ use Rattle.tfs.specs.declared.Done.the-variants as done
 use Rattle.tfs.specs.declared.EntryAnswer.{EntryAnswer}
 use Rattle.tfs.specs.declared.EntryAnswer.the-variants as entry
 use Rattle.tfs.specs.declared.Listing.{Listing}
+use Rattle.tfs.specs.declared.ReplayAnswer.{ReplayAnswer}
+use Rattle.tfs.specs.declared.ReplayAnswer.the-variants as replay
 
 -- ---- a fault: the number of the rule and the place, 0 for the header
 abbrev pub faultNumber : Fault → ℕ
@@ -66,6 +69,12 @@ listedName rules.unused = zeros 16
 listedName (rules.file nm i z) = padTo 16 nm
 listedName (rules.refused num p) = zeros 16
 
+abbrev pub replayTold : ReplayAnswer → replays.Replayed
+replayTold (replay.All n) = replays.replayed n
+replayTold (replay.Malformed k) = replays.malformedAt k
+replayTold (replay.Differs k) = replays.differsAt k
+replayTold (replay.Inconsistent f) = replays.denied (faultNumber f) (faultPlace f)
+
 -- ---- each case holds numbers of its own: 1 to 7 are faults of the volume, 8 and above refusals of the request; a listed name has 1 to 15 bytes
 abbrev pub FaultFits : Fault → Type 0
 FaultFits (Header num) = (1 ≤ num) × (num ≤ 3)
@@ -91,3 +100,9 @@ EntryFits entry.Free = Unit {0}
 EntryFits (entry.File len i z) = (1 ≤ len) × (len ≤ 15)
 EntryFits (entry.Refused num) = 8 ≤ num
 EntryFits (entry.Inconsistent f) = FaultFits f
+
+abbrev pub ReplayFits : ReplayAnswer → Type 0
+ReplayFits (replay.All n) = Unit {0}
+ReplayFits (replay.Malformed k) = Unit {0}
+ReplayFits (replay.Differs k) = Unit {0}
+ReplayFits (replay.Inconsistent f) = FaultFits f

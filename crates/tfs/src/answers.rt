@@ -3,10 +3,13 @@ ghost use mathlib.Core.Path.{_≡_};
 ghost use Rattle.tfs_spec.specs.Check.{broken};
 ghost use Rattle.tfs_check.specs.Told.{RuleFits};
 ghost use Rattle.tfs_steps.specs.Told.{stepTold, removeTold, StepFits};
-ghost use Rattle.tfs.specs.Told.{faultTold, FaultFits, answerTold, AnswerFits, doneTold, DoneFits};
+ghost use Rattle.tfs_replay.specs.Told.{replayedTold};
+ghost use Rattle.tfs.specs.Told.{faultTold, FaultFits, answerTold, AnswerFits, doneTold, DoneFits, replayTold, ReplayFits};
 use crate::Answer;
 use crate::Done;
 use crate::Fault;
+use crate::ReplayAnswer;
+use tfs_replay::Replayed;
 use tfs_steps::Step;
 
 // The fault of a broken rule.
@@ -42,5 +45,16 @@ pub fn done_of(step: Step) -> Done
     match step {
         Step::Granted(_) => Done::Granted,
         Step::Refused(n) => Done::Refused(n),
+    }
+}
+
+// The answer of a replay on a consistent volume.
+pub fn replay_of(x: Replayed) -> ReplayAnswer
+    ensures { λ r. ⌜ (replayTold r ≡ replayedTold x) × ReplayFits r ⌝ }
+{
+    match x {
+        Replayed::All(n) => ReplayAnswer::All(n),
+        Replayed::Malformed(k) => ReplayAnswer::Malformed(k),
+        Replayed::Differs(k) => ReplayAnswer::Differs(k),
     }
 }

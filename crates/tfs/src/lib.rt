@@ -1,15 +1,16 @@
 // TFS: files in an image that the caller holds. Every request but format runs the check first, and gives its fault where the volume is not consistent.
 mod answers; // answers.rt: the answers made of what the crates below give
-mod look; // look.rt: list and free bytes on a consistent volume
+mod look; // look.rt: list on a consistent volume
 
 ghost use mathlib.Core.Path.{_≡_};
 ghost use Rattle.tfs_spec.specs.Check.{check};
 ghost use Rattle.tfs_spec.specs.Requests.{format, create, remove, read, write, listAnswer, freeAnswer};
-ghost use Rattle.tfs.specs.Told.{checkTold, CheckFits, answerTold, AnswerFits, doneTold, DoneFits, listingTold, listedName, EntryFits};
+ghost use Rattle.tfs_spec.specs.Replays.{replay};
+ghost use Rattle.tfs.specs.Told.{checkTold, CheckFits, answerTold, AnswerFits, doneTold, DoneFits, listingTold, listedName, EntryFits, replayTold, ReplayFits};
 use crate::answers::answer_of;
 use crate::answers::done_of;
 use crate::answers::fault_of;
-use crate::look::free_step;
+use crate::answers::replay_of;
 use crate::look::list_step;
 use tfs_change::create_step;
 use tfs_change::remove_step;
@@ -17,7 +18,9 @@ use tfs_check::Verdict;
 use tfs_dir::names::label_allowed;
 use tfs_layout::LOW_END;
 use tfs_layout::NAME;
+use tfs_replay::replay_records;
 use tfs_steps::format::format_blocks;
+use tfs_steps::free::free_step;
 use tfs_transfer::read_step;
 use tfs_transfer::write_step;
 
@@ -63,6 +66,14 @@ pub enum EntryAnswer {
 pub struct Listing {
     pub entry: EntryAnswer,
     pub name: [u8; 16],
+}
+
+// What replay of a trace answers: all its records replayed, so many; the number, from 1, of the record at which it stops, malformed or with another answer than expected; or an inconsistent volume with its fault.
+pub enum ReplayAnswer {
+    All(usize),
+    Malformed(usize),
+    Differs(usize),
+    Inconsistent(Fault),
 }
 
 // An empty volume with this label, whatever the image held.
@@ -149,5 +160,15 @@ pub fn free_bytes(image: &[u8]) -> Answer
     match check(image) {
         CheckAnswer::Refused(f) => Answer::Inconsistent(f),
         CheckAnswer::Consistent => answer_of(free_step(image)),
+    }
+}
+
+// Replays a trace: the check once, then its requests one after another. A request whose answer differs has been run, and nothing is undone.
+pub fn replay(image: &mut [u8], trace: &[u8]) -> ReplayAnswer
+    ensures { λ r. ⌜ (replayTold r ≡ replay 512 (now (image .entry)) (now (trace .entry)) .result) × (now (image .exit) ≡ replay 512 (now (image .entry)) (now (trace .entry)) .image) × ReplayFits r ⌝ }
+{
+    match check(image) {
+        CheckAnswer::Refused(f) => ReplayAnswer::Inconsistent(f),
+        CheckAnswer::Consistent => replay_of(replay_records(image, trace)),
     }
 }

@@ -1,8 +1,7 @@
-// List and free bytes on a consistent volume.
+// List on a consistent volume.
 ghost use mathlib.Core.Path.{_≡_};
 ghost use Rattle.tfs_spec.specs.Check.{consistent, check};
-ghost use Rattle.tfs_spec.specs.Requests.{listStep, freeStep};
-ghost use Rattle.tfs_steps.specs.Told.{stepTold, StepFits};
+ghost use Rattle.tfs_spec.specs.Requests.{listStep};
 ghost use Rattle.tfs.specs.Told.{listingTold, listedName, EntryFits};
 use crate::EntryAnswer;
 use crate::Listing;
@@ -11,12 +10,9 @@ use tfs_dir::slots::slot_free;
 use tfs_dir::slots::slot_inode;
 use tfs_dir::slots::slot_name;
 use tfs_inode::volume::file_size;
-use tfs_layout::BLOCK;
 use tfs_layout::NAME;
 use tfs_layout::SLOTS;
 use tfs_layout::dir_of;
-use tfs_map::volume::free_blocks;
-use tfs_steps::Step;
 
 // What stands in a slot.
 pub fn list_step(image: &[u8], slot: u32) -> Listing
@@ -45,13 +41,4 @@ pub fn list_step(image: &[u8], slot: u32) -> Listing
         entry: EntryAnswer::File(len as u32, inode, size),
         name: slot_name(dir, s),
     }
-}
-
-// The bytes of all free blocks.
-pub fn free_step(image: &[u8]) -> Step
-    requires { ⌜ check 512 (now image) ≡ consistent ⌝ }
-    ensures { λ r. ⌜ (stepTold r ≡ freeStep 512 (now (image .entry))) × StepFits r ⌝ }
-{
-    let free = free_blocks(image);
-    Step::Granted((BLOCK * free) as u32)
 }

@@ -12,6 +12,7 @@ use tfs::CheckAnswer;
 use tfs::Done;
 use tfs::EntryAnswer;
 use tfs::Fault;
+use tfs::ReplayAnswer;
 
 // ---- what the requests give
 
@@ -55,6 +56,20 @@ fn of_entry(e: EntryAnswer) -> Outcome {
     }
 }
 
+// 0 for all replayed, 1 and 2 for a stop, with the number.
+fn of_end(end: u32, number: usize) -> Outcome {
+    granted(2, [end, (number % 4294967296) as u32, 0, 0, 0, 0])
+}
+
+fn of_replay(r: ReplayAnswer) -> Outcome {
+    match r {
+        ReplayAnswer::All(n) => of_end(0, n),
+        ReplayAnswer::Malformed(k) => of_end(1, k),
+        ReplayAnswer::Differs(k) => of_end(2, k),
+        ReplayAnswer::Inconsistent(f) => of_fault(f),
+    }
+}
+
 fn listed(image: &[u8], slot: u32) -> Outcome {
     let listing = tfs::list(image, slot);
     let entry = listing.entry;
@@ -74,6 +89,7 @@ fn request(given: Given, name: &[u8], buf: &mut [u8], image: &mut [u8]) -> Outco
         6 => of_answer(tfs::write(image, name, number, buf)),
         7 => listed(image, number),
         8 => of_answer(tfs::free_bytes(image)),
+        9 => of_replay(tfs::replay(image, buf)),
         _ => refused(1000, 0),
     }
 }

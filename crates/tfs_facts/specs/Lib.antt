@@ -14,3 +14,4 @@ pub mod FreshMap
 pub mod Names
 pub mod Lookups
 pub mod Chosen
+pub mod Forward

@@ -28,6 +28,11 @@ pub mod Offsets
 pub mod Histories
 pub mod Inodes
 pub mod Replies
+pub mod TraceNumbers
+pub mod TraceRecords
+pub mod TraceLists
+pub mod Replayed
+pub mod Lines
 pub mod Proved
 pub mod Numbers
 pub mod Bytes

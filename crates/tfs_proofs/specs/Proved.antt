@@ -6,6 +6,7 @@ use lib.Dec.{T}
 use Rattle.tfs_spec.specs.Layout.{labelAllowed, view}
 use Rattle.tfs_spec.specs.Check.{check}
 use Rattle.tfs_spec.specs.Requests.{Answer, granted, format, checkAnswer, perform}
+use Rattle.tfs_spec.specs.Replays.{run}
 use Rattle.tfs_facts.specs.CheckMeans.{check-means, check-breaks, same-means}
 use Rattle.tfs_facts.specs.Sizes.{size-512}
 use Rattle.tfs_facts.specs.Total.{adds-up}
@@ -26,6 +27,12 @@ use Rattle.tfs_proofs.specs.Touches.{remove-touches, create-touches}
 use Rattle.tfs_proofs.specs.Rooms.{removed-room, created-room, written-room}
 use Rattle.tfs_proofs.specs.Histories.{history-law}
 use Rattle.tfs_proofs.specs.Inodes.{inode-law}
+use Rattle.tfs_proofs.specs.TraceNumbers.{number-form, number-short, read-number}
+use Rattle.tfs_proofs.specs.TraceRecords.{read-string, read-record}
+use Rattle.tfs_proofs.specs.TraceLists as lists
+use Rattle.tfs_proofs.specs.TraceLists.{written-read, read-written, read-spoiled, positions, written, refused-33, written-all, numbers-fit}
+use Rattle.tfs_proofs.specs.Replayed.{agree, means, replay-stays, recorded-fits, again, any-buffer, joined}
+use Rattle.tfs_proofs.specs.Lines as lines
 use Rattle.tfs_proofs.specs.WriteLists.{writes-law, pieces-law}
 use Rattle.tfs_proofs.specs.CreateRemove.{back-law}
 use Rattle.tfs_proofs.specs.Orders.{orders-law}
@@ -120,6 +127,32 @@ statements =
       history-laws = history-law;
       inode-laws = inode-law;
       slot-laws = slot-law;
+      trace-laws = record {
+        example = lists.example;
+        number-form = number-form;
+        number-short = number-short;
+        read-number = read-number;
+        read-string = read-string;
+        read-record = read-record;
+        written-read = written-read;
+        read-written = read-written;
+        read-spoiled = read-spoiled;
+        positions = positions;
+        written = written;
+        refused-33 = refused-33;
+        written-all = written-all;
+        numbers-fit = numbers-fit;
+      };
+      line-laws = record { example = lines.example; decimal-form = lines.decimal-form };
+      replay-laws = λ B sz img. record {
+        means = means B sz img;
+        agree = λ c e fits. agree c e fits (run B img c);
+        stays = replay-stays B sz img;
+        again = again B sz img;
+        recordable = λ ok small cs h. recorded-fits B sz small cs h img ok;
+        any-buffer = any-buffer B img;
+        joined = joined B sz img;
+      };
       request-laws = λ B sz img ok. record {
         writes = writes-law B (omega (arith, sz .large)) img (check-means B sz img .1 ok) (ok .sound);
         covers = covers B img;

@@ -17,8 +17,8 @@ use Rattle.tfs_spec.specs.Check.{Verdict, consistent, broken, check}
 use Rattle.tfs_spec.specs.Consistent.{Consistent}
 use Rattle.tfs_spec.specs.Answers.{NameRule}
 use Rattle.tfs_spec.specs.Effects.{transferOn, readOn, readBy, TransferLaws}
-use Rattle.tfs_spec.specs.Laws.{Write, request, countOf, coversAt}
-use Rattle.tfs_spec.specs.Requests.{Answer, done, value, unused, file, refused, granted, Outcome, refuse, checked, Lookup, lookup, looked, counted, transferAnswer, readBuffer, readFile, readStep, read, writeFile, writeStep, write}
+use Rattle.tfs_spec.specs.Laws.{Write, request, coversAt}
+use Rattle.tfs_spec.specs.Requests.{countOf, Answer, done, value, unused, file, refused, granted, Outcome, refuse, checked, Lookup, lookup, looked, counted, transferAnswer, readBuffer, readFile, readStep, read, writeFile, writeStep, write}
 use Rattle.tfs_facts.specs.CheckMeans.{check-means}
 use Rattle.tfs_facts.specs.Lookups.{by-lookup, lookup-misnamed}
 use Rattle.tfs_proofs.specs.Content.{length-content}

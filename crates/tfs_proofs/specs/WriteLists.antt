@@ -14,8 +14,8 @@ use Rattle.tfs_spec.specs.Layout.{slots, inodeSize, sameName, View, view, name,
 use mathlib.Core.Option.{Option·map}
 use Rattle.tfs_spec.specs.Check.{consistent, broken, check, checkView, tooShort}
 use Rattle.tfs_spec.specs.Consistent.{File, Sound}
-use Rattle.tfs_spec.specs.Requests.{Answer, value, refused, granted, refuse, Lookup, inSlot, denied, lookup, looked, counted, transferAnswer, writeImage, writeFile, write}
-use Rattle.tfs_spec.specs.Laws.{Write, request, after, answers, countOf, coversAt, lastAt, WritesLaw, piecesImage, piecesCount, PiecesLaw}
+use Rattle.tfs_spec.specs.Requests.{countOf, Answer, value, refused, granted, refuse, Lookup, inSlot, denied, lookup, looked, counted, transferAnswer, writeImage, writeFile, write}
+use Rattle.tfs_spec.specs.Laws.{Write, request, after, answers, coversAt, lastAt, WritesLaw, piecesImage, piecesCount, PiecesLaw}
 use Rattle.tfs_facts.specs.Views.{inodes-out, has}
 use Rattle.tfs_proofs.specs.Content.{contents-at, contents-in, standing-map, content-by}
 use Rattle.tfs_proofs.specs.Writes.{Put, put, Files, effect, step, run, covers, lastOf, last-write, rest-kept, length-step, step-join}

@@ -19,7 +19,7 @@ table-join f k (suc d) e =
     rw (a, b) (ap (λ (l : List ℕ). f k ∷ l) (table-join f (suc k) d e))
 
 -- a run is a part of the image
-table-run : (img bs : List ℕ) (p r : ℕ) → p % 512 + r ≤ 512 → at bs p + r ≤ length img → table (λ q. getD img (at bs q) 0) p r ≡ take r (drop (at bs p) img)
+pub table-run : (img bs : List ℕ) (p r : ℕ) → p % 512 + r ≤ 512 → at bs p + r ≤ length img → table (λ q. getD img (at bs q) 0) p r ≡ take r (drop (at bs p) img)
 table-run img bs p r h l =
     ext-getD 0 (table f p r) (take r (drop (at bs p) img))
     (length-table f p r ∙ sym (simp (length-take, length-drop) (omega arith)))

@@ -10,10 +10,12 @@ use lib.Dec.{T, leb, ltb}
 use Rattle.lists.specs.Lists.{table, joined, zeros}
 use Rattle.tfs_spec.specs.Layout.{slots, block, slot, sameName, view, name, size, place, contents, BlockSize}
 use Rattle.tfs_spec.specs.Consistent.{File, Consistent, Bytes, LayoutLaws, NameLaws, NumberLaws}
-use Rattle.tfs_spec.specs.Requests.{Answer, done, value, unused, file, refused, granted, Outcome, create, remove, write, Change, perform}
+use Rattle.tfs_spec.specs.Requests.{Answer, done, value, granted, countOf, Outcome, create, remove, write, Change, perform}
 use Rattle.tfs_spec.specs.Answers.{CheckLaws, RefusalLaws, LabelRule, Stands, GrantLaws}
 use Rattle.tfs_spec.specs.Effects.{nameOn, ContentLaws, ChangeLaws, TouchLaws, FormatLaws, TransferLaws, SameSlot, KeptLaws, ByteLaws, RoomLaws}
 use Rattle.tfs_spec.specs.Histories.{HistoryLaws, InodeLaws, SlotLaws}
+use Rattle.tfs_spec.specs.Traces.{TraceLaws}
+use Rattle.tfs_spec.specs.Replays.{ReplayLaws, LineLaws}
 
 pub record Write : Type 0 where
   pub name : List ℕ
@@ -31,14 +33,6 @@ after B img (w ∷ ws) = after B (request B img w .image) ws
 unfoldable pub answers : ℕ → List ℕ → List Write → List Answer
 answers B img [] = []
 answers B img (w ∷ ws) = request B img w .answer ∷ answers B (request B img w .image) ws
-
--- the count of an answer: a refusal counts 0
-abbrev pub countOf : Answer → ℕ
-countOf done = 0
-countOf (value c) = c
-countOf unused = 0
-countOf (file nm i z) = 0
-countOf (refused num p) = 0
 
 -- "A granted write at offset o with count c covers positions o to o + c − 1 of the file" of its name
 unfoldable pub coversAt : ℕ → List ℕ → Write → List ℕ → ℕ → Bool
@@ -114,9 +108,12 @@ pub record RequestLaws (B : ℕ) (img : List ℕ) : Type 0 where
 
 -- ---- all statements, each with its premises; tfs_proofs/specs/Proved.antt proves each. The starred numbers are in starred/specs/Starred.antt
 pub record Statements : Type 0 where
-  -- of every image
+  -- of numbers, names, traces, and the numbers in the replay program's line
   pub number-laws : NumberLaws
   pub name-laws : NameLaws
+  pub trace-laws : TraceLaws
+  pub line-laws : LineLaws
+  -- of every image
   pub check-laws : (B : ℕ) → BlockSize B → (img : List ℕ) → CheckLaws B img
   pub refusal-laws : (B : ℕ) → BlockSize B → (img : List ℕ) → RefusalLaws B img
   pub grant-laws : (B : ℕ) → BlockSize B → (img : List ℕ) → GrantLaws B img
@@ -124,6 +121,7 @@ pub record Statements : Type 0 where
   pub history-laws : (B : ℕ) → BlockSize B → (img : List ℕ) → HistoryLaws B img
   pub inode-laws : (B : ℕ) → BlockSize B → (img : List ℕ) → InodeLaws B img
   pub slot-laws : (B : ℕ) → BlockSize B → (img : List ℕ) → SlotLaws B img
+  pub replay-laws : (B : ℕ) → BlockSize B → (img : List ℕ) → ReplayLaws B img
   -- of images of three blocks or more, of images of bytes
   pub layout-laws : (B : ℕ) → BlockSize B → (img : List ℕ) → 3 * B ≤ length img → LayoutLaws B img
   pub format-laws : (B : ℕ) → BlockSize B → (img label : List ℕ) → 3 * B ≤ length img → LabelRule label → FormatLaws B img label

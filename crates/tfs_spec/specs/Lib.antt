@@ -5,4 +5,6 @@ pub mod Consistent
 pub mod Answers
 pub mod Effects
 pub mod Histories
+pub mod Traces
+pub mod Replays
 pub mod Laws

@@ -27,6 +27,22 @@ granted unused = true
 granted (file nm i z) = true
 granted (refused num p) = false
 
+-- the number of a refusal, 0 for granted
+abbrev pub refusalOf : Answer → ℕ
+refusalOf done = 0
+refusalOf (value x) = 0
+refusalOf unused = 0
+refusalOf (file nm i z) = 0
+refusalOf (refused num p) = num
+
+-- the count of an answer: a refusal counts 0
+abbrev pub countOf : Answer → ℕ
+countOf done = 0
+countOf (value c) = c
+countOf unused = 0
+countOf (file nm i z) = 0
+countOf (refused num p) = 0
+
 -- what a request answers, and the image and the buffer that it leaves; [] where no buffer is lent for writing
 pub record Outcome : Type 0 where
   pub answer : Answer

@@ -3,6 +3,7 @@ pub mod format; // format.rt: blocks 0 to 2 of a fresh volume
 mod low; // low.rt: the map and the directory changed in place
 pub mod place; // place.rt: a file placed
 pub mod erase; // erase.rt: a file erased
+pub mod free; // free.rt: free bytes
 
 // What a request answers once the check is passed: granted with a number (0 where it has no result), or refused by its number.
 pub enum Step {

@@ -1,4 +1,6 @@
 // Read and write on a consistent volume: bytes between a buffer and the file of a name.
+pub mod compare; // compare.rt: what a read would give, compared with given bytes
+
 ghost use mathlib.Core.Path.{_≡_};
 ghost use Prim.Native.Nat.{_-_, _≤_, min};
 ghost use Rattle.tfs_spec.specs.Layout.{view};

@@ -11,6 +11,7 @@
 
 mod on_romfs;
 mod on_tfs;
+mod on_traces;
 mod race;
 mod table;
 mod volumes;
@@ -32,6 +33,8 @@ fn main() -> ExitCode {
     on_tfs::short_transfers(rounds);
     on_tfs::transfers(rounds);
     on_tfs::growth(rounds);
+    on_traces::replays(rounds);
+    on_traces::records(rounds);
     on_romfs::requests(rounds);
     on_romfs::growth(rounds);
     ExitCode::SUCCESS

@@ -5,17 +5,17 @@ use std::time::Instant;
 /// two turns of other programs.
 const BATCH_NS: f64 = 100_000.0;
 
-/// After these seconds a race ends before its last round, but not before the fifth.
+/// After these seconds no further round begins, but five are made in any case.
 const LONG: u64 = 4;
 
-/// Operations that are timed in turn, so that all of them see the same machine.
+/// Operations that are timed in turn, so that all of them meet the same load of the machine.
 pub struct Race<'a> {
     lanes: Vec<Box<dyn FnMut() + 'a>>,
     rounds: usize,
 }
 
 impl<'a> Race<'a> {
-    /// Starts a race of so many rounds.
+    /// Starts a measurement of so many rounds.
     pub fn new(rounds: usize) -> Self {
         let lanes = Vec::new();
         Self { lanes, rounds }

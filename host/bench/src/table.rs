@@ -34,7 +34,7 @@ impl Table {
     }
 }
 
-/// The cells of a race between the proved request and the reference.
+/// The cells for the times of the proved request and of the reference.
 pub fn pair(times: &[f64]) -> [String; 3] {
     [ns(times[0]), ns(times[1]), ratio(times[0], times[1])]
 }

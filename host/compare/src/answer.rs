@@ -2,14 +2,14 @@
 #[derive(Clone, Copy, Debug, Default, PartialEq, Eq)]
 pub struct Answer {
     /// The number of the refusal, the place, and what is granted.
-    pub words: [u32; 8],
+    pub words: [u64; 13],
     /// The name padded with zeros.
     pub name: [u8; 16],
 }
 
 impl Answer {
     /// Gives an answer of some words; those that are missing are 0.
-    pub fn of(words: &[u32]) -> Self {
+    pub fn of(words: &[u64]) -> Self {
         let mut answer = Self::default();
         answer.words[..words.len()].copy_from_slice(words);
         answer
@@ -23,11 +23,11 @@ impl Answer {
 
     /// Gives the number of the refusal, or 0.
     pub fn refusal(&self) -> u32 {
-        self.words[0]
+        self.words[0] as u32
     }
 
     /// Gives the first word behind refusal and place.
     pub fn value(&self) -> u32 {
-        self.words[2]
+        self.words[2] as u32
     }
 }

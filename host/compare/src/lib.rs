@@ -9,8 +9,8 @@
 //! ```text
 //! options                      the words of the command line
 //! run                          image after image, until a limit or a difference
-//! volumes         roms         the sequence of requests on one image
-//! drawn_volumes   drawn_roms   images and arguments by chance
+//! volumes         roms         traces         the sequence of requests on one image or trace
+//! drawn_volumes   drawn_roms   drawn_traces   images, traces and arguments by chance
 //! comparison                   a request on both sides, counted
 //! pair   tally   sides         two programs with copies of an image; answers counted; the programs
 //! answer   lent                an answer in the form of C; bytes lent, with noise around them
@@ -22,6 +22,7 @@
 mod answer;
 mod comparison;
 mod drawn_roms;
+mod drawn_traces;
 mod drawn_volumes;
 mod lent;
 pub mod options;
@@ -30,6 +31,7 @@ mod roms;
 mod run;
 pub mod sides;
 mod tally;
+mod traces;
 mod volumes;
 
 pub use answer::Answer;

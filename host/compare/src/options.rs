@@ -12,7 +12,7 @@ usage: compare [--seed S] [--cases N] [--seconds T] [--image I] [--only tfs|romf
   --cases N     stops after N requests
   --seconds T   stops after T seconds (default 5, or none with --cases or --image)
   --image I     only the image of this number
-  --only X      only requests on TFS volumes, or only on romfs images";
+  --only X      only requests on TFS volumes and traces, or only on romfs images";
 
 /// Reads the words behind the program's name.
 pub fn parse(mut words: impl Iterator<Item = String>) -> Option<Limits> {

@@ -88,6 +88,7 @@ impl fmt::Display for Difference {
             number,
             name,
             buffer,
+            entry,
         } = &self.arguments;
         writeln!(
             f,
@@ -99,6 +100,9 @@ impl fmt::Display for Difference {
             "  number {number}, name {name:?}, buffer of {} bytes",
             buffer.len()
         )?;
+        if self.request == Request::TraceWrite {
+            writeln!(f, "  {entry:?}")?;
+        }
         for (side, answer) in ["proved", "reference"].iter().zip(&self.answers) {
             writeln!(f, "  {side}: {:?}, name {:?}", answer.words, answer.name)?;
         }

@@ -7,7 +7,7 @@ use generate::Random;
 use crate::comparison::{Comparison, Stop};
 use crate::pair::{Difference, Side};
 use crate::tally::Tally;
-use crate::{roms, volumes};
+use crate::{roms, traces, volumes};
 
 /// What to draw, and when to stop.
 #[derive(Clone, Copy, Debug)]
@@ -66,10 +66,12 @@ pub fn run(limits: Limits, sides: [Side; 2]) -> (Tally, Option<Found>) {
 /// Makes the sequence of requests on the image of a number.
 fn on_image(comparison: &mut Comparison, limits: &Limits, image: u64) -> Result<(), Stop> {
     comparison.random = Random::new(limits.seed.wrapping_mul(0x9E37_79B9_7F4A_7C15) ^ image);
-    // A volume has about ten times as many requests as a romfs image.
-    if limits.tfs && (!limits.romfs || image.is_multiple_of(10)) {
-        volumes::on_next(comparison)
-    } else {
-        roms::on_next(comparison)
+    // A volume or a trace has about ten times as many requests as a romfs image.
+    match (limits.tfs, limits.romfs) {
+        (true, true) if image % 20 == 5 => traces::on_next(comparison),
+        (true, true) if image.is_multiple_of(10) => volumes::on_next(comparison),
+        (true, false) if image % 4 == 3 => traces::on_next(comparison),
+        (true, false) => volumes::on_next(comparison),
+        _ => roms::on_next(comparison),
     }
 }

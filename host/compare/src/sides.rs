@@ -2,10 +2,14 @@
 
 use proved::c;
 use reference::request::{self, Arguments, Granted, Request};
+use reference::trace::Entry;
 use reference::{romfs, Refusal};
 
 use crate::answer::Answer;
 use crate::lent::Lents;
+
+/// The outcome of a replay that the check refuses.
+const REPLAY_REFUSED: u64 = 3;
 
 /// Answers with the proved library.
 pub fn proved(request: Request, arguments: &Arguments, lents: &mut Lents) -> Answer {
@@ -22,6 +26,12 @@ pub fn proved(request: Request, arguments: &Arguments, lents: &mut Lents) -> Ans
         Request::TfsWrite => value_answer(c::tfs::write(image, name, number, buffer)),
         Request::TfsList => slot_answer(c::tfs::list(image, number)),
         Request::TfsFree => value_answer(c::tfs::free_bytes(image)),
+        Request::TfsReplay => replay_answer(c::trace::replay(image, buffer)),
+        Request::TraceRead => record_answer(c::trace::read(buffer, number as usize)),
+        Request::TraceWrite => {
+            let written = c::trace::write(image, entry(&arguments.entry), name, buffer);
+            Answer::of(&[written.refusal, 0, written.length])
+        }
         Request::RomCheck => value_answer(c::romfs::check(image)),
         Request::RomFind => value_answer(c::romfs::find(image, number, name)),
         Request::RomEntry => entry_answer(c::romfs::entry(image, number)),
@@ -30,7 +40,46 @@ pub fn proved(request: Request, arguments: &Arguments, lents: &mut Lents) -> Ans
 }
 
 fn value_answer(answer: c::Answer) -> Answer {
-    Answer::of(&[answer.refusal, answer.place, answer.value])
+    Answer::of(&[answer.refusal, answer.place, answer.value].map(u64::from))
+}
+
+fn replay_answer(replayed: c::trace::Replayed) -> Answer {
+    Answer::of(&[
+        replayed.refusal,
+        replayed.place,
+        replayed.outcome,
+        replayed.number,
+    ])
+}
+
+fn record_answer(record: c::trace::Record) -> Answer {
+    let entry = record.entry;
+    Answer::of(&[
+        0,
+        0,
+        entry.kind,
+        entry.size,
+        entry.offset,
+        entry.length,
+        entry.refusal,
+        entry.value,
+        record.name_at,
+        record.name_length,
+        record.bytes_at,
+        record.bytes_length,
+        record.next,
+    ])
+}
+
+fn entry(entry: &Entry) -> c::trace::Entry {
+    c::trace::Entry {
+        kind: entry.kind,
+        size: entry.size,
+        offset: entry.offset,
+        length: entry.length,
+        refusal: entry.refusal,
+        value: entry.value,
+    }
 }
 
 fn slot_answer(slot: c::tfs::Slot) -> Answer {
@@ -42,11 +91,11 @@ fn slot_answer(slot: c::tfs::Slot) -> Answer {
         slot.size,
         slot.name_length,
     ];
-    Answer::of(&words).named(&slot.name)
+    Answer::of(&words.map(u64::from)).named(&slot.name)
 }
 
 fn entry_answer(entry: c::romfs::Header) -> Answer {
-    Answer::of(&[
+    let words = [
         entry.refusal,
         entry.place,
         entry.file_type,
@@ -55,11 +104,13 @@ fn entry_answer(entry: c::romfs::Header) -> Answer {
         entry.size,
         entry.next,
         entry.name_length,
-    ])
+    ];
+    Answer::of(&words.map(u64::from))
 }
 
 fn part_answer(part: c::romfs::Part) -> Answer {
-    Answer::of(&[part.refusal, part.place, part.offset, part.length])
+    let words = [part.refusal, part.place, part.offset, part.length];
+    Answer::of(&words.map(u64::from))
 }
 
 /// Answers with the reference, in the form that the C interface owes.
@@ -69,15 +120,21 @@ pub fn reference(request: Request, arguments: &Arguments, lents: &mut Lents) -> 
         Request::RomLength | Request::RomContent => content(image, arguments.number),
         _ => request::run(request, arguments, image, lents.buffer.bytes_mut()).map(granted),
     };
-    answer.unwrap_or_else(|Refusal { number, place }| Answer::of(&[number, place]))
+    answer.unwrap_or_else(|Refusal { number, place }| {
+        let outcome = match request {
+            Request::TfsReplay => REPLAY_REFUSED,
+            _ => 0,
+        };
+        Answer::of(&[number.into(), place.into(), outcome])
+    })
 }
 
 /// The numbers of a result, and the name of a listed file with its length.
 fn granted((values, name): Granted) -> Answer {
     let mut words = vec![0, 0];
-    words.extend(values);
+    words.extend(values.into_iter().map(u64::from));
     if !name.is_empty() {
-        words.push(name.len() as u32);
+        words.push(name.len() as u64);
     }
     Answer::of(&words).named(&name)
 }
@@ -87,5 +144,5 @@ fn content(image: &[u8], at: u32) -> Result<Answer, Refusal> {
     let length = romfs::content_length(image, at)?;
     let part = romfs::content(image, at);
     let offset = part.as_ptr() as usize - image.as_ptr() as usize;
-    Ok(Answer::of(&[0, 0, offset as u32, length]))
+    Ok(Answer::of(&[0, 0, offset as u64, length.into()]))
 }

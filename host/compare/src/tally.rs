@@ -4,7 +4,7 @@ use reference::request::Request;
 
 use crate::answer::Answer;
 
-const REQUESTS: [(Request, &str); 12] = [
+const REQUESTS: [(Request, &str); 15] = [
     (Request::TfsFormat, "format"),
     (Request::TfsCheck, "check"),
     (Request::TfsCreate, "create"),
@@ -13,23 +13,59 @@ const REQUESTS: [(Request, &str); 12] = [
     (Request::TfsWrite, "write"),
     (Request::TfsList, "list"),
     (Request::TfsFree, "free bytes"),
+    (Request::TfsReplay, "replay"),
+    (Request::TraceRead, "record read"),
+    (Request::TraceWrite, "record written"),
     (Request::RomCheck, "romfs check"),
     (Request::RomFind, "find"),
     (Request::RomEntry, "entry"),
     (Request::RomContent, "content"),
 ];
 
+/// One more than the greatest number of a refusal.
+const REFUSALS: usize = 34;
+
 /// How often each request was granted, and given each refusal.
-#[derive(Clone, Debug, Default, PartialEq, Eq)]
+#[derive(Clone, Debug, PartialEq, Eq)]
 pub struct Tally {
     /// By request and number of the refusal; 0 is granted.
-    answers: [[u64; 32]; 32],
+    answers: [[u64; REFUSALS]; 32],
+    /// How often a granted replay ended in each way: all, malformed, differs.
+    ended: [u64; 3],
+    /// How often a record of each kind was read; 0 is malformed.
+    read: [u64; 6],
+}
+
+impl Default for Tally {
+    fn default() -> Self {
+        Self {
+            answers: [[0; REFUSALS]; 32],
+            ended: [0; 3],
+            read: [0; 6],
+        }
+    }
 }
 
 impl Tally {
     /// Counts an answer.
     pub fn count(&mut self, request: Request, answer: &Answer) {
-        self.answers[request as usize][answer.refusal() as usize % 32] += 1;
+        let value = answer.value() as usize;
+        match (request, answer.refusal()) {
+            (Request::TfsReplay, 0) => self.ended[value] += 1,
+            (Request::TraceRead, 0) => self.read[value] += 1,
+            _ => {}
+        }
+        self.answers[request as usize][answer.refusal() as usize] += 1;
+    }
+
+    /// Gives how often a granted replay ended with an outcome.
+    pub fn ended(&self, outcome: usize) -> u64 {
+        self.ended[outcome]
+    }
+
+    /// Gives how often a record of a kind was read; 0 is malformed.
+    pub fn read(&self, kind: usize) -> u64 {
+        self.read[kind]
     }
 
     /// Gives the number of requests.
@@ -49,7 +85,7 @@ impl Tally {
 
     /// Gives how often a refusal was given.
     pub fn seen(&self, number: u32) -> u64 {
-        let of_request = |answers: &[u64; 32]| answers[number as usize];
+        let of_request = |answers: &[u64; REFUSALS]| answers[number as usize];
         self.answers.iter().map(of_request).sum()
     }
 }
@@ -68,9 +104,14 @@ impl fmt::Display for Tally {
             write!(f, " {name} {granted}+{}", all - granted)?;
         }
         write!(f, "; refusals:")?;
-        for number in (1..=15).chain(21..=31) {
+        for number in (1..=15).chain(21..=31).chain([33]) {
             write!(f, " {number}:{}", self.seen(number))?;
         }
-        Ok(())
+        let [all, malformed, differs] = self.ended;
+        write!(
+            f,
+            "; replayed: all {all}, malformed {malformed}, differs {differs}"
+        )?;
+        write!(f, "; records read malformed: {}", self.read[0])
     }
 }

@@ -1,6 +1,6 @@
 //! Sequences of requests on TFS volumes.
 
-use generate::cases::tfs_arguments;
+use generate::cases::{tfs_arguments, trace_arguments};
 use generate::tfs::{damage_volume, damage_volume_twice, put_leftovers, scramble_volume, Volume};
 use reference::request::{Arguments, Request};
 use reference::tfs::BLOCK_SIZE;
@@ -10,7 +10,7 @@ use crate::comparison::{Comparison, Stop};
 use crate::drawn_volumes::{any_image, twist};
 use crate::pair::Pair;
 
-const REQUESTS: [Request; 24] = [
+const REQUESTS: [Request; 27] = [
     Request::TfsCreate,
     Request::TfsCreate,
     Request::TfsCreate,
@@ -33,6 +33,9 @@ const REQUESTS: [Request; 24] = [
     Request::TfsList,
     Request::TfsFree,
     Request::TfsFree,
+    Request::TfsReplay,
+    Request::TfsReplay,
+    Request::TfsReplay,
     Request::TfsCheck,
     Request::TfsFormat,
 ];
@@ -128,7 +131,7 @@ impl<'a> History<'a> {
         Ok(())
     }
 
-    /// Makes a few requests on a damaged copy, which then is thrown away.
+    /// Makes a few requests on a damaged copy, which is then not used again.
     fn aside(&mut self) -> Result<(), Stop> {
         let random = &mut self.comparison.random;
         self.made.image = self.pair.image().to_vec();
@@ -169,6 +172,11 @@ impl<'a> History<'a> {
         if request == Request::TfsFormat && !random.one_in(3) {
             request = Request::TfsCheck;
         }
+        if request == Request::TfsReplay {
+            self.made.image = self.pair.image().to_vec();
+            let arguments = trace_arguments(random, &self.made);
+            return (request, arguments);
+        }
         let mut arguments = tfs_arguments(random, &self.made, request);
         twist(random, request, &mut arguments);
         (request, arguments)
@@ -179,6 +187,7 @@ impl<'a> History<'a> {
         match request {
             Request::TfsFormat => self.made.formatted(),
             Request::TfsRemove => self.made.removed(name),
+            Request::TfsReplay => self.made.look(self.pair.image()),
             Request::TfsCreate => {
                 let image = self.pair.image();
                 self.made.created(image, name, answer.value(), *number);

@@ -46,6 +46,7 @@ impl Large {
             number,
             name: name.to_vec(),
             buffer: buffer.to_vec(),
+            ..Arguments::default()
         };
         let answer = self.pair.request(&mut self.random, request, &arguments);
         let answer = answer.unwrap_or_else(|difference| panic!("{difference}"));
@@ -136,7 +137,7 @@ fn the_largest_files_fill_3203_blocks() {
     let mut large = Large::formatted(512 * 3203);
     for number in 0..25 {
         let made = large.ask(Request::TfsCreate, 65_024, &[b'A' + number]);
-        assert_eq!(made, Answer::of(&[0, 0, 3 + 128 * u32::from(number)]));
+        assert_eq!(made, Answer::of(&[0, 0, 3 + 128 * u64::from(number)]));
     }
     assert_eq!(large.free(), 0);
     assert_eq!(large.ask(Request::TfsCreate, 0, b"more").refusal(), 11);
@@ -164,4 +165,45 @@ fn images_longer_than_4_gib() {
     assert_eq!(proved::romfs::check(&image), Ok(()));
     let found = reference::romfs::find(&image, 0, b"d02");
     assert_eq!(proved::romfs::find(&image, 0, b"d02").ok(), found.ok());
+}
+
+/// Positions and lengths that 32 bits cannot hold.
+#[test]
+fn traces_longer_than_4_gib() {
+    use proved::trace::{read, replay, write, Record, Replayed};
+    const LONG: usize = 1 << 32;
+    let mut trace = vec![0; LONG + 2];
+    trace[..2].copy_from_slice(b"\x05\x07");
+    trace[LONG..].copy_from_slice(b"\x05\x07");
+    for at in [0, LONG] {
+        assert_eq!(read(&trace, at).map(|(_, next)| next), Some(at + 2));
+    }
+    for at in [2, LONG - 1, LONG + 1, LONG + 2, LONG + 3, usize::MAX] {
+        assert_eq!(read(&trace, at), None);
+        assert_eq!(read(b"\x05\x07", at), None);
+    }
+    let mut image = vec![0; 5 * 512];
+    proved::tfs::format(&mut image, b"LONG").expect("format");
+    assert_eq!(replay(&mut image, &trace), Ok(Replayed::Differs(1)));
+    trace[1] = 0;
+    trace[2] = 0x80;
+    trace[3] = 0x08;
+    assert_eq!(replay(&mut image, &trace), Ok(Replayed::Malformed(2)));
+
+    let mut record = Record::default();
+    let mut out = [7; 40];
+    for (kind, named) in [
+        (1, true),
+        (2, true),
+        (3, true),
+        (4, true),
+        (3, false),
+        (4, false),
+    ] {
+        record.entry.kind = kind;
+        let parts: [&[u8]; 2] = [&trace[..LONG], b""];
+        [record.name, record.bytes] = [parts[usize::from(!named)], parts[usize::from(named)]];
+        assert_eq!(write(&mut out, &record).unwrap_err().number, 33);
+        assert_eq!(out, [7; 40]);
+    }
 }

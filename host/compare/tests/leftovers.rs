@@ -138,7 +138,7 @@ fn listed_with_leftovers<const LONGER: bool>(
         answer.name.copy_from_slice(field);
         let end = field.iter().rposition(|byte| *byte != 0);
         if let (true, Some(end)) = (LONGER, end) {
-            answer.words[5] = end as u32 + 1;
+            answer.words[5] = end as u64 + 1;
         }
     }
     answer

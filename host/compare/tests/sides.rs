@@ -8,7 +8,7 @@ use reference::request::{Arguments, Request};
 use sought::{compared, found};
 
 /// The refusals that each request can give.
-const REFUSALS: [(Request, &[u32]); 12] = [
+const REFUSALS: [(Request, &[u32]); 15] = [
     (Request::TfsFormat, &[1, 8]),
     (Request::TfsCheck, &[1, 2, 3, 4, 5, 6, 7]),
     (Request::TfsCreate, &[1, 2, 3, 4, 5, 6, 7, 8, 9, 10, 11, 12]),
@@ -17,6 +17,9 @@ const REFUSALS: [(Request, &[u32]); 12] = [
     (Request::TfsWrite, &[1, 2, 3, 4, 5, 6, 7, 8, 13, 15]),
     (Request::TfsList, &[1, 2, 3, 4, 5, 6, 7, 14]),
     (Request::TfsFree, &[1, 2, 3, 4, 5, 6, 7]),
+    (Request::TfsReplay, &[1, 2, 3, 4, 5, 6, 7]),
+    (Request::TraceRead, &[]),
+    (Request::TraceWrite, &[33]),
     (Request::RomCheck, &[21, 22, 23, 24, 25, 26, 27, 28, 29]),
     (
         Request::RomFind,
@@ -36,11 +39,13 @@ fn both_agree_and_every_answer_is_met() {
     assert_eq!(tally.requests(), 40_000);
     for (request, refusals) in REFUSALS {
         assert!(tally.granted(request) > 100, "{request:?}");
-        let met: Vec<u32> = (1..32)
+        let met: Vec<u32> = (1..34)
             .filter(|number| tally.refused(request, *number) > 0)
             .collect();
         assert_eq!(met, refusals, "{request:?}");
     }
+    assert!((0..3).all(|outcome| tally.ended(outcome) > 100));
+    assert!((0..6).all(|kind| tally.read(kind) > 20));
 }
 
 #[test]

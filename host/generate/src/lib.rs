@@ -1,8 +1,8 @@
 //! Images and requests for tests, generated from a seed: the same seed gives the same bytes.
 //!
-//! [`tfs`] and [`romfs`] build images, sound and damaged, and [`cases`] draws requests on them and
-//! notes the answers of the reference. The reference has a part in the images only where a volume
-//! is to have a history of requests.
+//! [`tfs`] and [`romfs`] build images, sound and damaged, [`traces`] sessions on volumes, and
+//! [`cases`] draws requests on them and notes the answers of the reference. The reference has a part
+//! in the images only where a volume is to have a history of requests.
 
 #![forbid(unsafe_code)]
 #![warn(missing_docs)]
@@ -11,5 +11,6 @@ pub mod cases;
 mod random;
 pub mod romfs;
 pub mod tfs;
+pub mod traces;
 
 pub use random::Random;

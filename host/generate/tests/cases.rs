@@ -73,6 +73,19 @@ fn transfers(cases: &[Case]) -> HashSet<(Request, u32, bool, bool)> {
 }
 
 #[test]
+fn replays_end_in_every_way() {
+    let cases = tfs_cases(1, 600, false);
+    let replays = cases
+        .iter()
+        .filter(|case| case.request == Request::TfsReplay);
+    let ends = |case: &Case| (case.answer.number, case.answer.values.first().copied());
+    let met: HashSet<_> = replays.map(ends).collect();
+    let owed = (0..=2).map(|outcome| (0, Some(outcome)));
+    let refused = (1..=7).map(|number| (number, None));
+    assert_eq!(met, owed.chain(refused).collect());
+}
+
+#[test]
 fn a_name_is_refused_before_an_offset() {
     let met = transfers(&tfs_cases(1, 600, false));
     for request in [Request::TfsRead, Request::TfsWrite] {
@@ -119,6 +132,6 @@ fn the_same_seed_gives_the_same_cases() {
 fn large_cases_stand_at_the_end() {
     let cases = tfs_cases(5, 20, true);
     assert_eq!(cases.len(), 20);
-    assert!(cases[9..].iter().all(|case| case.image.len() >= 2_097_152));
-    assert!(cases[..9].iter().all(|case| case.image.len() < 100_000));
+    assert!(cases[7..].iter().all(|case| case.image.len() >= 2_097_152));
+    assert!(cases[..7].iter().all(|case| case.image.len() < 100_000));
 }

@@ -1,4 +1,5 @@
-//! The proved requests, called through their C interface (`include/tfs.h`, `include/romfs.h`).
+//! The proved requests, called through their C interface (`include/tfs.h`, `include/tfs_trace.h`,
+//! `include/romfs.h`).
 //!
 //! Rust's borrows give what the headers ask of a caller: valid pointers, and no overlap.
 
@@ -7,6 +8,7 @@
 pub mod c;
 pub mod romfs;
 pub mod tfs;
+pub mod trace;
 
 /// A refused request: the number of the refusal and its place.
 #[derive(Clone, Copy, Debug, PartialEq, Eq)]

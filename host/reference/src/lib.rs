@@ -1,7 +1,7 @@
 //! A second implementation of the TFS and romfs rules, written from the rules alone.
 //!
-//! [`tfs`] and [`romfs`] answer requests on images in memory; [`request`] has all of them in one
-//! form.
+//! [`tfs`] and [`romfs`] answer requests on images in memory, [`trace`] reads, writes and replays
+//! traces of requests; [`request`] has all of them in one form.
 
 #![forbid(unsafe_code)]
 #![warn(missing_docs)]
@@ -10,5 +10,6 @@ mod refusal;
 pub mod request;
 pub mod romfs;
 pub mod tfs;
+pub mod trace;
 
 pub use refusal::Refusal;

@@ -2,6 +2,7 @@
 
 use crate::romfs;
 use crate::tfs::{self, Listing};
+use crate::trace::{self, Draft, Entry, Replayed};
 use crate::Refusal;
 
 /// A request, with the number that stands for it where requests are stored.
@@ -23,6 +24,12 @@ pub enum Request {
     TfsList = 7,
     /// Free bytes.
     TfsFree = 8,
+    /// Replay of a trace, which the buffer holds.
+    TfsReplay = 9,
+    /// Read of the record at a position of a trace, which the buffer holds.
+    TraceRead = 10,
+    /// Write of a record over the start of the image; the buffer holds the record's bytes.
+    TraceWrite = 11,
     /// Check of a romfs image.
     RomCheck = 17,
     /// Find of a name in a directory.
@@ -38,12 +45,14 @@ pub enum Request {
 /// What a request is given besides the image.
 #[derive(Clone, Debug, Default, PartialEq, Eq)]
 pub struct Arguments {
-    /// The size, offset, slot, directory or header.
+    /// The size, offset, slot, position, directory or header.
     pub number: u32,
     /// The name.
     pub name: Vec<u8>,
     /// The buffer as it is before the request.
     pub buffer: Vec<u8>,
+    /// The numbers of a record that is to be written.
+    pub entry: Entry,
 }
 
 /// The numbers of a granted result, and its name or content.
@@ -68,6 +77,16 @@ pub fn run(
         Request::TfsWrite => tfs::write(image, name, number, buffer).map(one),
         Request::TfsList => tfs::list(image, number).map(listed),
         Request::TfsFree => tfs::free_bytes(image).map(one),
+        Request::TfsReplay => trace::replay(image, buffer).map(ended),
+        Request::TraceRead => Ok((read_record(buffer, number).to_vec(), Vec::new())),
+        Request::TraceWrite => {
+            let draft = Draft {
+                entry: arguments.entry,
+                name,
+                bytes: buffer,
+            };
+            draft.write(image).map(|length| one(length as u32))
+        }
         Request::RomCheck => romfs::check(image).map(nothing),
         Request::RomFind => romfs::find(image, number, name).map(one),
         Request::RomEntry => romfs::entry(image, number).map(described),
@@ -87,6 +106,46 @@ fn nothing((): ()) -> Granted {
 /// The result of a request that gives a number.
 fn one(value: u32) -> Granted {
     (vec![value], Vec::new())
+}
+
+/// The end of a replay: 0 all records, 1 malformed, 2 differs; then how many, or which from 1.
+fn ended(replayed: Replayed) -> Granted {
+    let (outcome, number) = match replayed {
+        Replayed::All(count) => (0, count),
+        Replayed::Malformed(number) => (1, number),
+        Replayed::Differs(number) => (2, number),
+    };
+    (vec![outcome, number as u32], Vec::new())
+}
+
+/// The numbers of a record; where its name and bytes lie, and where the next record starts. Those
+/// that it does not have are 0, and all where it is malformed.
+fn read_record(trace: &[u8], at: u32) -> [u32; 11] {
+    let Some((record, next)) = trace::read(trace, at as usize) else {
+        return [0; 11];
+    };
+    let Draft { entry, name, bytes } = Draft::from(record);
+    let part = |has: bool, part: &[u8]| match has {
+        true => [part.as_ptr() as usize - trace.as_ptr() as usize, part.len()],
+        false => [0; 2],
+    };
+    let has_bytes = entry.kind == 4 || entry.kind == 3 && entry.refusal == 0;
+    let [name_at, name_length] = part(entry.kind != 5, name).map(|number| number as u64);
+    let [bytes_at, bytes_length] = part(has_bytes, bytes).map(|number| number as u64);
+    [
+        entry.kind,
+        entry.size,
+        entry.offset,
+        entry.length,
+        entry.refusal,
+        entry.value,
+        name_at,
+        name_length,
+        bytes_at,
+        bytes_length,
+        next as u64,
+    ]
+    .map(|number| number as u32)
 }
 
 /// A slot: 0 if it is free, else 1, inode number, size and name.

@@ -1,4 +1,4 @@
-//! The numbers and the slips that the rules name, for TFS.
+//! The numbers and the mistakes that the rules name, for TFS.
 
 use reference::tfs::{check, create, format, free_bytes, list, read, remove, write, Listing};
 use reference::Refusal;

@@ -92,6 +92,11 @@ impl Arguments {
         given.map(|(_, value)| value.as_os_str())
     }
 
+    /// The value of an option as a path, if it is given.
+    pub fn path_of(&self, name: &str) -> Option<&Path> {
+        self.value(name).map(Path::new)
+    }
+
     /// Whether an option is given.
     pub fn flag(&self, name: &str) -> bool {
         self.value(name).is_some()

@@ -2,7 +2,7 @@
 
 use crate::arguments::{size, Arguments, Options};
 use crate::failure::{Failure, Outcome};
-use crate::{dump, rom, volume};
+use crate::{dump, rom, trace, volume};
 use std::ffi::OsString;
 use std::os::unix::ffi::OsStrExt;
 
@@ -21,7 +21,26 @@ const NO_OPTIONS: Options = Options {
     flags: &[],
 };
 
-const COMMANDS: [Command; 12] = [
+const ONLY_RECORD: Options = Options {
+    valued: &["--record"],
+    flags: &[],
+};
+
+/// What a command with --record does, and what that adds.
+macro_rules! recorded {
+    ($about:literal) => {
+        concat!(
+            $about,
+            "
+--record TRACE appends what was asked of the volume and answered, refused requests too, to a
+trace, which is made if it is missing. The new trace is written whole beside the old one, then
+what the command writes is put in place, then the trace. Where only this last step fails, the
+message says that the image or file has been changed and the trace has not."
+        )
+    };
+}
+
+const COMMANDS: [Command; 15] = [
     Command {
         name: "make",
         usage: "IMAGE --size BYTES [--label NAME] [--force]",
@@ -55,43 +74,95 @@ A name ends at its zero; leftovers behind it are shown by tfs dump only.",
     },
     Command {
         name: "free",
-        usage: "IMAGE",
-        about: "Prints the free bytes: 512 for each free block. A file needs one block for its inode.",
+        usage: "IMAGE [--record TRACE]",
+        about: recorded!(
+            "Prints the free bytes: 512 for each free block. A file needs one block for its inode."
+        ),
         words: (1, 1),
-        options: NO_OPTIONS,
-        run: |given| volume::free(given.path(0)),
+        options: ONLY_RECORD,
+        run: |given| volume::free(given.path(0), given.path_of("--record")),
     },
     Command {
         name: "put",
-        usage: "IMAGE HOSTFILE [--name NAME] [--replace]",
-        about: "Puts a host file into the volume, under its own name or under NAME.
-HOSTFILE may be - for standard input. A name that stands is refused, unless --replace is given.",
+        usage: "IMAGE HOSTFILE [--name NAME] [--replace] [--record TRACE]",
+        about: concat!(
+            recorded!(
+                "Puts a host file into the volume, under its own name or under NAME.
+HOSTFILE may be - for standard input. A name that stands is refused, unless --replace is given."
+            ),
+            "
+Where --replace has removed a file in memory and the new one is refused, nothing is recorded,
+since the image stays as it was."
+        ),
         words: (2, 2),
         options: Options {
-            valued: &["--name"],
+            valued: &["--name", "--record"],
             flags: &["--replace"],
         },
-        run: |given| {
-            let name = given.value("--name").map(|name| name.as_bytes());
-            volume::put(given.path(0), given.path(1), name, given.flag("--replace"))
-        },
+        run: put,
     },
     Command {
         name: "get",
-        usage: "IMAGE NAME [HOSTFILE]",
-        about: "Writes a file of the volume to HOSTFILE, or to a host file NAME in the working folder.
-HOSTFILE may be - for standard output. A host file that stands there is replaced.",
+        usage: "IMAGE NAME [HOSTFILE] [--record TRACE]",
+        about: recorded!(
+            "Writes a file of the volume to HOSTFILE, or to a host file NAME in the working folder.
+HOSTFILE may be - for standard output. A host file that stands there is replaced."
+        ),
         words: (2, 3),
-        options: NO_OPTIONS,
-        run: |given| volume::get(given.path(0), given.word(1), given.path_if_given(2)),
+        options: ONLY_RECORD,
+        run: |given| {
+            let (host, record) = (given.path_if_given(2), given.path_of("--record"));
+            volume::get(given.path(0), given.word(1), host, record)
+        },
     },
     Command {
         name: "remove",
-        usage: "IMAGE NAME",
-        about: "Removes a file from the volume.",
+        usage: "IMAGE NAME [--record TRACE]",
+        about: recorded!("Removes a file from the volume."),
+        words: (2, 2),
+        options: ONLY_RECORD,
+        run: |given| volume::remove(given.path(0), given.bytes(1), given.path_of("--record")),
+    },
+    Command {
+        name: "replay",
+        usage: "IMAGE TRACE [--out IMAGE2]",
+        about: "Makes the requests of a trace on a copy of the volume, as long as the answers are those recorded.
+Prints how many records were replayed, or tells the record, from 1, whose answer differs (exit
+status 4) or that is malformed (5). IMAGE is never changed. --out writes the copy to IMAGE2, also
+where replay has stopped: with all that was made, a differing request too. A file that stands
+there is replaced. A volume that is refused (1) gives no IMAGE2.",
+        words: (2, 2),
+        options: Options {
+            valued: &["--out"],
+            flags: &[],
+        },
+        run: |given| trace::replay(given.path(0), given.path(1), given.path_of("--out")),
+    },
+    Command {
+        name: "trace show",
+        usage: "TRACE",
+        about: "Prints a trace, a line for each record: the request, an arrow, and the answer.
+    create \"TIMING\" 1000 -> granted   name, size
+    write \"TIMING\" 0 \"tCL=11\" -> 6    name, offset, bytes; the count
+    read \"TIMING\" 4 64 -> \"11\\x00\"    name, offset, length of the buffer; the bytes
+    remove \"RATES\" -> refused 13      name; any request may be refused
+    free -> 62464                     the free bytes
+In quotes, the quote, the backslash and bytes that are not printable ASCII are written \\xNN.
+Before a malformed record (exit status 5) the lines of the records before it are printed.",
+        words: (1, 1),
+        options: NO_OPTIONS,
+        run: |given| trace::show(given.path(0)),
+    },
+    Command {
+        name: "trace make",
+        usage: "LINES TRACE",
+        about: "Makes a trace of lines as tfs trace show prints them: the same bytes again.
+LINES may be - for standard input. Empty lines and those that begin with # are left out. A bad
+line (exit status 5) is told with its number, and nothing is written. A file that stands at TRACE
+is replaced.",
         words: (2, 2),
         options: NO_OPTIONS,
-        run: |given| volume::remove(given.path(0), given.bytes(1)),
+        run: |given| trace::make(given.path(0), given.path(1)),
     },
     Command {
         name: "dump",
@@ -145,7 +216,11 @@ Hard links are followed, symbolic links are not.",
 ];
 
 const STATUS: &str = "Exit status: 0 done; 1 refused by the rules of the filesystem; 2 wrong usage;
-3 a host file cannot be read or written. After a failure every file is as it was.\n";
+3 a host file cannot be read or written; 4 a replayed request was answered otherwise; 5 a record
+or a line of a trace is malformed. After a failure every file is as it was, but: replay --out
+writes its copy; --record adds refused requests to the trace; what was written before standard
+output failed stays; and so does an image or file whose trace could not be put in place, which
+the message says.\n";
 
 /// Runs the command that words ask for.
 pub fn run(words: Vec<OsString>) -> Outcome {
@@ -227,7 +302,7 @@ fn overview() -> String {
     let line = |command: &Command| format!("  tfs {} {}\n", command.name, command.usage);
     let lines: String = COMMANDS.iter().map(line).collect();
     format!(
-        "A bench tool for TFS volumes and romfs images.\n\n{lines}\n\
+        "A bench tool for TFS volumes, traces of requests on them, and romfs images.\n\n{lines}\n\
          tfs COMMAND --help tells more of a command, tfs --version the version.\n\n{STATUS}"
     )
 }
@@ -238,6 +313,15 @@ fn make(given: &Arguments) -> Outcome {
     };
     let label = given.value("--label").unwrap_or_default().as_bytes();
     volume::make(given.path(0), size(length)?, label, given.flag("--force"))
+}
+
+fn put(given: &Arguments) -> Outcome {
+    let put = volume::Put {
+        host: given.path(1),
+        name: given.value("--name").map(|name| name.as_bytes()),
+        replace: given.flag("--replace"),
+    };
+    volume::put(given.path(0), &put, given.path_of("--record"))
 }
 
 fn dump(given: &Arguments) -> Outcome {

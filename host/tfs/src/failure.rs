@@ -17,6 +17,10 @@ pub enum Failure {
     Refused(PathBuf, Refusal),
     /// This host file cannot be read or written.
     Host(PathBuf, String),
+    /// A request of this trace was answered otherwise than expected.
+    Differs(PathBuf, String),
+    /// This trace has a malformed record, or these lines a bad one.
+    Malformed(PathBuf, String),
 }
 
 impl Failure {
@@ -25,12 +29,28 @@ impl Failure {
         Self::Host(path.to_path_buf(), why.to_string())
     }
 
+    /// The failure with a host file after another has been changed.
+    pub fn but_changed(self, other: &Path) -> Self {
+        match self {
+            Self::Host(path, why) => {
+                let changed = other.display();
+                Self::Host(
+                    path,
+                    format!("{why}; {changed} has been changed, the trace has not"),
+                )
+            }
+            failure => failure,
+        }
+    }
+
     /// The exit status.
     pub fn status(&self) -> u8 {
         match self {
             Self::Refused(..) => 1,
             Self::Usage(_) => 2,
             Self::Host(..) => 3,
+            Self::Differs(..) => 4,
+            Self::Malformed(..) => 5,
         }
     }
 }
@@ -43,7 +63,9 @@ impl fmt::Display for Failure {
                 let (number, words) = (refusal.number, words::refusal(*refusal));
                 write!(f, "{}: refused {number}: {words}", image.display())
             }
-            Self::Host(path, why) => write!(f, "{}: {why}", path.display()),
+            Self::Host(path, why) | Self::Differs(path, why) | Self::Malformed(path, why) => {
+                write!(f, "{}: {why}", path.display())
+            }
         }
     }
 }

@@ -6,6 +6,7 @@
 use crate::failure::Failure;
 use std::fs::{self, File, Metadata, OpenOptions};
 use std::io::{self, ErrorKind, Read, Write};
+use std::os::unix::ffi::OsStrExt;
 use std::os::unix::fs::{fchown, MetadataExt, OpenOptionsExt};
 use std::path::{Path, PathBuf};
 
@@ -29,6 +30,19 @@ pub fn read_at_most(path: &Path, most: usize) -> Result<Vec<u8>, Failure> {
     Ok(bytes)
 }
 
+/// Reads a file or standard input.
+pub fn read_or_standard(path: &Path) -> Result<Vec<u8>, Failure> {
+    read_at_most(path, usize::MAX)
+}
+
+/// Reads a file, or nothing where none stands.
+pub fn read_if_there(path: &Path) -> Result<Vec<u8>, Failure> {
+    match fs::read(path) {
+        Err(error) if error.kind() == ErrorKind::NotFound => Ok(Vec::new()),
+        read => read.map_err(|error| Failure::host(path, error)),
+    }
+}
+
 /// Writes to standard output.
 pub fn print(bytes: &[u8]) -> Result<(), Failure> {
     let mut out = io::stdout().lock();
@@ -37,20 +51,60 @@ pub fn print(bytes: &[u8]) -> Result<(), Failure> {
         .map_err(|error| Failure::host(Path::new("standard output"), error))
 }
 
-/// Whether two paths lead to one file.
-pub fn same(one: &Path, other: &Path) -> bool {
-    let real = |path| fs::canonicalize(path).ok();
-    real(one).is_some_and(|one| real(other) == Some(one))
+/// Fails where two paths lead to one file, there or not yet.
+pub fn apart(path: &Path, other: &Path, what: &str) -> Result<(), Failure> {
+    match real(path).is_some_and(|path| real(other) == Some(path)) {
+        true => Err(Failure::host(path, format!("is {what} itself"))),
+        false => Ok(()),
+    }
+}
+
+/// The path of a file without links, or the one that it would have.
+fn real(path: &Path) -> Option<PathBuf> {
+    let folder = || {
+        Some(
+            fs::canonicalize(folder_of(path))
+                .ok()?
+                .join(path.file_name()?),
+        )
+    };
+    fs::canonicalize(path).ok().or_else(folder)
 }
 
 /// Writes a file, in place of the one that stands there, whose permissions are kept.
 pub fn write(path: &Path, bytes: &[u8]) -> Result<(), Failure> {
+    prepare(path, bytes)?.put_in_place()
+}
+
+/// Writes a file beside its place; one that stands there stays as yet.
+pub fn prepare(path: &Path, bytes: &[u8]) -> Result<Prepared, Failure> {
     let written = if stands(path) {
-        replace(path, bytes)
+        replacement(path, bytes)
     } else {
-        create(path, bytes)
+        new(path, bytes)
     };
-    written.map_err(|error| Failure::host(path, error))
+    let (place, temporary) = written.map_err(|error| Failure::host(path, error))?;
+    Ok(Prepared {
+        path: path.to_path_buf(),
+        place,
+        temporary,
+    })
+}
+
+/// A file that is written and flushed beside its place.
+pub struct Prepared {
+    path: PathBuf,
+    /// The path without links.
+    place: PathBuf,
+    temporary: Temporary,
+}
+
+impl Prepared {
+    /// Puts the file in its place.
+    pub fn put_in_place(self) -> Result<(), Failure> {
+        let renamed = self.temporary.rename(&self.place);
+        renamed.map_err(|error| Failure::host(&self.path, error))
+    }
 }
 
 /// Writes a file where none stands.
@@ -58,7 +112,7 @@ pub fn write_new(path: &Path, bytes: &[u8]) -> Result<(), Failure> {
     if stands(path) {
         return Err(Failure::host(path, "exists already (--force replaces it)"));
     }
-    create(path, bytes).map_err(|error| Failure::host(path, error))
+    prepare(path, bytes)?.put_in_place()
 }
 
 /// Makes a folder with what `fill` puts into it, where nothing stands.
@@ -85,27 +139,35 @@ fn stands(path: &Path) -> bool {
     fs::symlink_metadata(path).is_ok()
 }
 
-fn create(path: &Path, bytes: &[u8]) -> io::Result<()> {
+fn new(path: &Path, bytes: &[u8]) -> io::Result<(PathBuf, Temporary)> {
+    // Such as "" or "folder/": no file could be renamed to it.
+    let written = path.as_os_str().as_bytes();
+    if !path
+        .file_name()
+        .is_some_and(|name| written.ends_with(name.as_bytes()))
+    {
+        return Err(io::Error::other("not the name of a file"));
+    }
     let (mut file, temporary) = Temporary::beside(path, |place| new_file(place, 0o666))?;
     file.write_all(bytes)?;
     file.sync_all()?;
-    temporary.rename(path)
+    Ok((path.to_path_buf(), temporary))
 }
 
-/// Replaces a file; a symbolic link goes on leading to it.
-fn replace(path: &Path, bytes: &[u8]) -> io::Result<()> {
-    let path = &fs::canonicalize(path)?;
-    let old = fs::metadata(path)?;
+/// Writes what is to replace a file; a symbolic link goes on leading to it.
+fn replacement(path: &Path, bytes: &[u8]) -> io::Result<(PathBuf, Temporary)> {
+    let path = fs::canonicalize(path)?;
+    let old = fs::metadata(&path)?;
     if !old.is_file() {
         return Err(io::Error::other("not a plain file"));
     }
     // A file that may not be written to may not be replaced either.
-    OpenOptions::new().write(true).open(path)?;
-    let (mut file, temporary) = Temporary::beside(path, |place| new_file(place, 0o600))?;
+    OpenOptions::new().write(true).open(&path)?;
+    let (mut file, temporary) = Temporary::beside(&path, |place| new_file(place, 0o600))?;
     file.write_all(bytes)?;
     keep_rights(&file, &old)?;
     file.sync_all()?;
-    temporary.rename(path)
+    Ok((path, temporary))
 }
 
 /// Gives a new file the permissions of an old one, and its owner where this user may do so.

@@ -1,4 +1,4 @@
-//! A bench tool for TFS volumes and romfs images.
+//! A bench tool for TFS volumes, traces of requests on them, and romfs images.
 //!
 //! The requests are those of the proved library; this program only reads and writes host files.
 
@@ -11,6 +11,7 @@ mod failure;
 mod files;
 mod image;
 mod rom;
+mod trace;
 mod volume;
 mod words;
 

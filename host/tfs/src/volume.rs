@@ -3,6 +3,7 @@
 use crate::failure::{Failure, Outcome};
 use crate::files::{self, STANDARD};
 use crate::image::Image;
+use crate::trace::Session;
 use crate::words;
 use proved::{tfs, Refusal};
 use std::ffi::OsStr;
@@ -12,7 +13,9 @@ use std::path::Path;
 /// The number of slots of a directory.
 pub const SLOTS: u32 = 25;
 
-const LARGEST_FILE: usize = 65_024;
+/// The size of the largest file.
+pub const LARGEST_FILE: u32 = 65_024;
+
 const NO_SUCH_NAME: u32 = 13;
 
 /// Makes an empty volume in a new file, or in place of one if forced.
@@ -50,26 +53,51 @@ pub fn list(path: &Path) -> Outcome {
 }
 
 /// Gives the free bytes of a volume.
-pub fn free(path: &Path) -> Outcome {
+pub fn free(path: &Path, record: Option<&Path>) -> Outcome {
+    let mut session = Session::open(record, path)?;
     let image = Image::load(path)?;
-    let free = tfs::free_bytes(&image.bytes).map_err(|refusal| image.refused(refusal))?;
-    Ok(format!("{free}\n").into_bytes())
+    match session.free_bytes(&image.bytes) {
+        Err(refusal) => Err(session.refused(&image, refusal)),
+        Ok(free) => {
+            session.save()?;
+            Ok(format!("{free}\n").into_bytes())
+        }
+    }
 }
 
-/// Puts a host file into a volume, in place of a file of that name if asked to.
-pub fn put(path: &Path, host: &Path, name: Option<&[u8]>, replace: bool) -> Outcome {
-    let name = name
+/// What is put: a host file, under its own name or another.
+pub struct Put<'a> {
+    pub host: &'a Path,
+    pub name: Option<&'a [u8]>,
+    /// Whether a file of that name is replaced.
+    pub replace: bool,
+}
+
+/// Puts a host file into a volume.
+pub fn put(path: &Path, given: &Put<'_>, record: Option<&Path>) -> Outcome {
+    let host = given.host;
+    let name = given
+        .name
         .or_else(|| base_name(host))
         .ok_or_else(|| Failure::Usage(format!("put: {}: give a --name", host.display())))?;
+    let mut session = Session::open(record, path)?;
     let mut image = Image::load(path)?;
     // One byte more than a file may have is enough for the refusal.
-    let content = files::read_at_most(host, LARGEST_FILE + 1)?;
-    let count = store(&mut image.bytes, name, &content, replace)
-        .map_err(|refusal| image.refused(refusal))?;
-    if count as usize != content.len() {
-        return Err(image.unread(format!("{count} of {} bytes written", content.len())));
+    let content = files::read_at_most(host, LARGEST_FILE as usize + 1)?;
+    match store(
+        &mut session,
+        &mut image.bytes,
+        name,
+        &content,
+        given.replace,
+    ) {
+        Err(refusal) => return Err(session.refused(&image, refusal)),
+        Ok(count) if count as usize != content.len() => {
+            return Err(image.unread(format!("{count} of {} bytes written", content.len())));
+        }
+        Ok(_) => {}
     }
-    image.save()?;
+    session.save_with(path, || image.save())?;
     Ok(Vec::new())
 }
 
@@ -81,32 +109,45 @@ fn base_name(host: &Path) -> Option<&[u8]> {
     host.file_name().map(OsStr::as_bytes)
 }
 
-fn store(volume: &mut [u8], name: &[u8], content: &[u8], replace: bool) -> Result<u32, Refusal> {
+fn store(
+    session: &mut Session,
+    volume: &mut [u8],
+    name: &[u8],
+    content: &[u8],
+    replace: bool,
+) -> Result<u32, Refusal> {
     if replace {
-        match tfs::remove(volume, name) {
+        match session.remove(volume, name) {
             Err(refusal) if refusal.number != NO_SUCH_NAME => return Err(refusal),
             _ => {}
         }
     }
-    tfs::create(volume, name, content.len() as u32)?;
-    tfs::write(volume, name, 0, content)
+    session.create(volume, name, content.len() as u32)?;
+    session.write(volume, name, 0, content)
 }
 
 /// Gets a file out of a volume.
-pub fn get(path: &Path, name: &OsStr, host: Option<&Path>) -> Outcome {
+pub fn get(path: &Path, name: &OsStr, host: Option<&Path>, record: Option<&Path>) -> Outcome {
     let host = match host {
         Some(host) => host,
         None => as_host_file(name)?,
     };
+    let mut session = Session::open(record, path)?;
     let image = Image::load(path)?;
-    let content = fetch(&image.bytes, name.as_bytes()).map_err(|refusal| image.refused(refusal))?;
+    let read = session.read(&image.bytes, name.as_bytes(), 0, LARGEST_FILE);
+    let content = match read {
+        Ok(content) => content,
+        Err(refusal) => return Err(session.refused(&image, refusal)),
+    };
     if host == Path::new(STANDARD) {
+        session.save()?;
         return Ok(content);
     }
-    if files::same(host, path) {
-        return Err(Failure::host(host, "is the image itself"));
+    files::apart(host, path, "the image")?;
+    if let Some(record) = record {
+        files::apart(host, record, "the trace")?;
     }
-    files::write(host, &content)?;
+    session.save_with(host, || files::write(host, &content))?;
     Ok(Vec::new())
 }
 
@@ -121,17 +162,13 @@ fn as_host_file(name: &OsStr) -> Result<&Path, Failure> {
     }
 }
 
-fn fetch(volume: &[u8], name: &[u8]) -> Result<Vec<u8>, Refusal> {
-    let mut content = vec![0; LARGEST_FILE];
-    let count = tfs::read(volume, name, 0, &mut content)?;
-    content.truncate(count as usize);
-    Ok(content)
-}
-
 /// Removes a file from a volume.
-pub fn remove(path: &Path, name: &[u8]) -> Outcome {
+pub fn remove(path: &Path, name: &[u8], record: Option<&Path>) -> Outcome {
+    let mut session = Session::open(record, path)?;
     let mut image = Image::load(path)?;
-    tfs::remove(&mut image.bytes, name).map_err(|refusal| image.refused(refusal))?;
-    image.save()?;
+    if let Err(refusal) = session.remove(&mut image.bytes, name) {
+        return Err(session.refused(&image, refusal));
+    }
+    session.save_with(path, || image.save())?;
     Ok(Vec::new())
 }

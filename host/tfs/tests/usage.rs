@@ -4,37 +4,47 @@ mod bench;
 
 use bench::Folder;
 
-const PUT: &str = "put IMAGE HOSTFILE [--name NAME] [--replace]";
+const PUT: &str = "put IMAGE HOSTFILE [--name NAME] [--replace] [--record TRACE]";
 
 #[test]
 fn help_tells_of_every_command() {
     let folder = Folder::new("help");
     let overview = folder.tfs("--help").text();
     let commands = [
-        "make",
-        "check",
-        "list",
-        "free",
-        "put",
-        "get",
-        "remove",
-        "dump",
-        "rom check",
-        "rom list",
-        "rom extract",
-        "rom cat",
+        "make IMAGE",
+        "check IMAGE",
+        "list IMAGE",
+        "free IMAGE",
+        "put IMAGE",
+        "get IMAGE",
+        "remove IMAGE",
+        "replay IMAGE",
+        "trace show TRACE",
+        "trace make LINES",
+        "dump IMAGE",
+        "rom check IMAGE",
+        "rom list IMAGE",
+        "rom extract IMAGE",
+        "rom cat IMAGE",
     ];
-    for command in commands {
-        assert!(
-            overview.contains(&format!("\n  tfs {command} IMAGE")),
-            "{command}"
-        );
+    for usage in commands {
+        assert!(overview.contains(&format!("\n  tfs {usage}")), "{usage}");
+        let (command, _) = usage.rsplit_once(' ').unwrap();
         let help = folder.tfs(&format!("{command} --help")).text();
-        assert!(
-            help.starts_with(&format!("usage: tfs {command} IMAGE")),
-            "{command}"
-        );
-        assert_eq!(help.matches("usage:").count(), 1, "{command}");
+        assert!(help.starts_with(&format!("usage: tfs {usage}")), "{usage}");
+        assert_eq!(help.matches("usage:").count(), 1, "{usage}");
+        let records = help.contains("[--record TRACE]");
+        assert_eq!(records, help.contains("--record TRACE appends"), "{usage}");
+    }
+    assert_eq!(overview.matches("[--record TRACE]").count(), 4);
+    for (command, replaces) in [
+        ("put", true),
+        ("get", false),
+        ("remove", false),
+        ("free", false),
+    ] {
+        let help = folder.tfs(&format!("{command} --help")).text();
+        assert_eq!(help.contains("--replace"), replaces, "{command}");
     }
     assert_eq!(folder.tfs("rom --help").text().matches("usage:").count(), 4);
     assert_eq!(

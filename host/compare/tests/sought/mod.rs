@@ -1,5 +1,7 @@
 //! A program sought out as a wrong one by the comparison with the reference.
 
+#![allow(dead_code)]
+
 use compare::sides::reference;
 use compare::{options, run, Found, Limits, Side, Tally};
 
@@ -12,9 +14,15 @@ pub fn compared(words: &str, side: Side) -> (Tally, Option<Found>) {
 
 /// Finds a wrong program, and finds it again by the number of the image alone.
 pub fn found(side: Side) -> Found {
-    let (_, found) = compared("--seed 1 --cases 40000", side);
+    found_in("", side)
+}
+
+/// The same, with these words more for the comparison.
+pub fn found_in(words: &str, side: Side) -> Found {
+    let (_, found) = compared(&format!("--seed 1 --cases 40000{words}"), side);
     let found = found.expect("the wrong program is found");
-    let (_, again) = compared(&format!("--seed 1 --image {}", found.image), side);
+    let again = format!("--seed 1 --image {}{words}", found.image);
+    let (_, again) = compared(&again, side);
     assert_eq!(again.expect("found again").request, found.request);
     found
 }

@@ -18,9 +18,9 @@
 //! | Part | Form | Meaning |
 //! |---|---|---|
 //! | request | one byte | which it is, see below |
-//! | number | number | size, offset, slot, directory or header |
+//! | number | number | size, offset, slot, position, directory or header |
 //! | name | bytes | name given to the request |
-//! | buffer | bytes | buffer as it is before the request |
+//! | buffer | bytes | buffer as it is before the request; a trace where the request has one |
 //! | image | bytes | image as it is before the request |
 //! | refusal | number | number of the refusal, 0 if granted |
 //! | place | number | place of the refusal, 0 if granted |
@@ -41,6 +41,7 @@
 //! | 6 | TFS write | number = offset, name, buffer | count | image |
 //! | 7 | TFS list | number = slot | 0 for a free slot; else 1, inode number, size, and text = name | - |
 //! | 8 | TFS free bytes | | free bytes | - |
+//! | 9 | TFS replay | buffer = trace | outcome (0 all replayed, 1 malformed, 2 differs), number of records or of the record | image |
 //! | 17 | romfs check | | | - |
 //! | 18 | romfs find | number = directory, name | offset of the header | - |
 //! | 19 | romfs entry | number = header | type, executable (0 or 1), spec.info, size, next, name length | - |
@@ -158,6 +159,7 @@ mod tests {
             number: 9,
             name: b"n".to_vec(),
             buffer: vec![0xCD, 0xEF],
+            ..Arguments::default()
         };
         let packed = pack(&[Case::new(Request::TfsRead, arguments, &[0xAB])]);
         let mut expected = vec![0, 0, 0, 1, 5, 0, 0, 0, 9, 0, 0, 0, 1, b'n'];

@@ -6,9 +6,12 @@ mod romfs;
 mod romfs_arguments;
 mod tfs;
 mod tfs_arguments;
+mod trace_arguments;
+mod traces;
 
 pub use case::{fnv1a, Answer, Case};
 pub use romfs::romfs_cases;
 pub use romfs_arguments::romfs_arguments;
 pub use tfs::tfs_cases;
 pub use tfs_arguments::tfs_arguments;
+pub use trace_arguments::trace_arguments;

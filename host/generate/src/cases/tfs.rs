@@ -6,21 +6,25 @@ use reference::tfs::{BLOCK_SIZE, LARGEST_FILE, MOST_BLOCKS, SLOTS};
 use super::case::Case;
 use super::drawn::Drawn;
 use super::tfs_arguments::{size, tfs_arguments};
+use super::trace_arguments::trace_arguments;
+use super::traces;
 use crate::tfs::{
     any_volume, change_case, damage_slot, damage_volume, damage_volume_twice, has_leftovers,
     scramble_volume, volume, File, Shape, SlotFault, Volume,
 };
 use crate::Random;
 
-const OTHERS: [Request; 10] = [
+const OTHERS: [Request; 12] = [
     Request::TfsCreate,
     Request::TfsRead,
     Request::TfsWrite,
     Request::TfsRemove,
+    Request::TfsReplay,
     Request::TfsCreate,
     Request::TfsRead,
     Request::TfsList,
     Request::TfsWrite,
+    Request::TfsReplay,
     Request::TfsFormat,
     Request::TfsFree,
 ];
@@ -123,7 +127,7 @@ fn add(drawn: &mut Drawn, request: Request, number: u32, name: &[u8], image: &[u
     let arguments = Arguments {
         number,
         name: name.to_vec(),
-        buffer: Vec::new(),
+        ..Arguments::default()
     };
     drawn.add(request, arguments, image);
 }
@@ -146,9 +150,13 @@ fn one_of_each(drawn: &mut Drawn) {
     let crowded = volume(&mut drawn.random, Shape::Crowded, 28);
     drawn.add_plain(Request::TfsCheck, &crowded.image);
     crowd(drawn, &crowded);
-    faults(drawn, &made);
+    let damaged = faults(&mut drawn.random, &made);
+    for image in &damaged {
+        drawn.add_plain(Request::TfsCheck, image);
+    }
     slot_faults(drawn, &made);
     slot_faults(drawn, &crowded);
+    traces::one_of_each(drawn, &made, &damaged);
 }
 
 /// A small volume of several files, one that has content and a name of some letters, and one that
@@ -217,22 +225,21 @@ fn transfers(drawn: &mut Drawn, name: &[u8], size: u32, image: &[u8]) {
                 number: offset,
                 name: name.to_vec(),
                 buffer: drawn.random.bytes(length),
+                ..Arguments::default()
             };
             drawn.add(request, arguments, image);
         }
     }
 }
 
-/// Adds a check for each of its refusals.
-fn faults(drawn: &mut Drawn, made: &Volume) {
-    for rule in 1..=7 {
-        let damaged = loop {
-            if let Some((damaged, _)) = damage_volume(&mut drawn.random, made, rule) {
-                break damaged;
-            }
-        };
-        drawn.add_plain(Request::TfsCheck, &damaged);
-    }
+/// An image for each refusal of a check.
+fn faults(random: &mut Random, made: &Volume) -> Vec<Vec<u8>> {
+    let fault = |rule| loop {
+        if let Some((damaged, _)) = damage_volume(random, made, rule) {
+            return damaged;
+        }
+    };
+    (1..=7).map(fault).collect()
 }
 
 /// Adds some checks for each way to break a slot.
@@ -247,6 +254,10 @@ fn slot_faults(drawn: &mut Drawn, made: &Volume) {
 /// Adds the request whose turn it is.
 fn other(drawn: &mut Drawn, made: &Volume, image: &[u8]) {
     let request = drawn.turn(&OTHERS);
-    let arguments = tfs_arguments(&mut drawn.random, made, request);
+    let random = &mut drawn.random;
+    let arguments = match request {
+        Request::TfsReplay => trace_arguments(random, made),
+        _ => tfs_arguments(random, made, request),
+    };
     drawn.add(request, arguments, image);
 }

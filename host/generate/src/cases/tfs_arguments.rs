@@ -105,6 +105,7 @@ fn transfer(random: &mut Random, made: &Volume) -> Arguments {
         number,
         name: name(random, file, 0),
         buffer: random.bytes(length),
+        ..Arguments::default()
     }
 }
 

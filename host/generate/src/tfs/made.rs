@@ -49,16 +49,45 @@ impl Volume {
 
     /// Takes note of a file that was created; the image is the one after that.
     pub fn created(&mut self, image: &[u8], name: &[u8], inode: u32, size: u32) {
-        let inode_words = image[inode as usize * BLOCK_SIZE..].as_chunks().0.iter();
-        let numbers = inode_words.skip(1).map(|word| u32::from_be_bytes(*word));
         self.files.push(File {
             slot: self.free_slot().unwrap_or(SLOTS),
             name: name.to_vec(),
             inode,
             size,
-            blocks: numbers.take((size as usize).div_ceil(BLOCK_SIZE)).collect(),
+            blocks: inode_words(image, inode)
+                .skip(1)
+                .take(blocks_of(size))
+                .collect(),
         });
         self.files.sort_by_key(|file| file.slot);
+    }
+
+    /// Takes note of all files of a consistent image, after requests that were not noted.
+    pub fn look(&mut self, image: &[u8]) {
+        let slots = image[2 * BLOCK_SIZE..]
+            .as_chunks::<20>()
+            .0
+            .iter()
+            .take(SLOTS);
+        let file = |(slot, raw): (usize, &[u8; 20])| {
+            let inode = u32::from_be_bytes(*raw.first_chunk()?);
+            let size = inode_words(image, inode).next().filter(|_| inode != 0)?;
+            let name = raw[4..].split(|&byte| byte == 0).next()?;
+            Some(File {
+                slot,
+                name: name.to_vec(),
+                inode,
+                size,
+                blocks: inode_words(image, inode)
+                    .skip(1)
+                    .take(blocks_of(size))
+                    .collect(),
+            })
+        };
+        let files: Vec<File> = slots.enumerate().filter_map(file).collect();
+        let gone = self.files.extract_if(.., |file| !files.contains(file));
+        self.gone.extend(gone);
+        self.files = files;
     }
 
     /// Takes note of a file that was removed.
@@ -71,4 +100,13 @@ impl Volume {
     pub fn formatted(&mut self) {
         self.gone.append(&mut self.files);
     }
+}
+
+fn inode_words(image: &[u8], inode: u32) -> impl Iterator<Item = u32> + '_ {
+    let block = image[inode as usize * BLOCK_SIZE..].as_chunks().0.iter();
+    block.map(|word| u32::from_be_bytes(*word))
+}
+
+fn blocks_of(size: u32) -> usize {
+    (size as usize).div_ceil(BLOCK_SIZE)
 }

@@ -1,4 +1,4 @@
-//! The two checks once more, literal and slow, to hold the quick ones against.
+//! The two checks once more, literal and slow, to compare the quick ones with.
 
 use std::collections::{BTreeMap, HashMap};
 

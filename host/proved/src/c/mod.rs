@@ -4,6 +4,7 @@
 
 pub mod romfs;
 pub mod tfs;
+pub mod trace;
 
 /// `tfs_result` and `romfs_result`.
 #[repr(C)]

@@ -137,7 +137,7 @@ impl<'a> Header<'a> {
         self.file_type() == FileType::Directory && matches!(self.name, b"." | b"..")
     }
 
-    /// Tells whether rule 29 has a say about this header.
+    /// Tells whether rule 29 applies to this header.
     pub(super) fn points_elsewhere(&self) -> bool {
         self.file_type() == FileType::HardLink || self.is_dot()
     }

@@ -4,7 +4,7 @@ use super::layout::{
     blocks_for, blocks_mut, content_numbers, file_size, mark, set_word, slots_mut, Name, Slot,
     BLOCK_SIZE, DIRECTORY, LARGEST_FILE, MAGIC, MAP, MOST_CONTENT, SLOTS,
 };
-use super::volume::Volume;
+use super::volume::{checked, Open};
 use crate::Refusal;
 
 /// What a slot of the directory holds.
@@ -40,7 +40,17 @@ pub fn format(image: &mut [u8], name: &[u8]) -> Result<(), Refusal> {
 
 /// Makes a file of zeros and gives its inode number.
 pub fn create(image: &mut [u8], name: &[u8], size: u32) -> Result<u32, Refusal> {
-    let volume = Volume::checked(image)?;
+    create_in(checked, image, name, size)
+}
+
+#[inline]
+pub(super) fn create_in(
+    open: Open,
+    image: &mut [u8],
+    name: &[u8],
+    size: u32,
+) -> Result<u32, Refusal> {
+    let volume = open(image)?;
     let name = Name::of_file(name).ok_or(Refusal::plain(8))?;
     if size > LARGEST_FILE {
         return Err(Refusal::plain(9));
@@ -74,7 +84,12 @@ pub fn create(image: &mut [u8], name: &[u8], size: u32) -> Result<u32, Refusal> 
 
 /// Takes a file out of the directory and gives its blocks back.
 pub fn remove(image: &mut [u8], name: &[u8]) -> Result<(), Refusal> {
-    let (slot, inode) = Volume::checked(image)?.lookup(name)?;
+    remove_in(checked, image, name)
+}
+
+#[inline]
+pub(super) fn remove_in(open: Open, image: &mut [u8], name: &[u8]) -> Result<(), Refusal> {
+    let (slot, inode) = open(image)?.lookup(name)?;
     let blocks = blocks_mut(image);
     let record = blocks[inode as usize];
     let map = &mut blocks[MAP];
@@ -88,7 +103,7 @@ pub fn remove(image: &mut [u8], name: &[u8]) -> Result<(), Refusal> {
 
 /// Tells what a slot holds.
 pub fn list(image: &[u8], slot: u32) -> Result<Listing<'_>, Refusal> {
-    let volume = Volume::checked(image)?;
+    let volume = checked(image)?;
     let index = usize::try_from(slot).unwrap_or(SLOTS);
     Ok(match volume.slot(index).ok_or(Refusal::plain(14))? {
         Slot::Free => Listing::Free,
@@ -102,5 +117,10 @@ pub fn list(image: &[u8], slot: u32) -> Result<Listing<'_>, Refusal> {
 
 /// Gives the number of bytes in free blocks.
 pub fn free_bytes(image: &[u8]) -> Result<u32, Refusal> {
-    Ok(BLOCK_SIZE as u32 * Volume::checked(image)?.free_count())
+    free_bytes_in(checked, image)
+}
+
+#[inline]
+pub(super) fn free_bytes_in(open: Open, image: &[u8]) -> Result<u32, Refusal> {
+    Ok(BLOCK_SIZE as u32 * open(image)?.free_count())
 }

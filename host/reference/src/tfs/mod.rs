@@ -4,6 +4,7 @@
 //! neither the image nor a buffer.
 
 mod directory;
+pub(crate) mod known;
 mod layout;
 mod transfer;
 mod volume;

@@ -3,12 +3,12 @@
 use std::ops::Range;
 
 use super::layout::{file_size, word, Block, BLOCK_SIZE};
-use super::volume::Volume;
+use super::volume::{checked, Open};
 use crate::Refusal;
 
 /// Copies content of a file from an offset on into a buffer and gives the count of bytes.
 pub fn read(image: &[u8], name: &[u8], offset: u32, buffer: &mut [u8]) -> Result<u32, Refusal> {
-    let runs = Runs::plan(image, name, offset, buffer.len())?;
+    let runs = Runs::plan(checked, image, name, offset, buffer.len())?;
     let count = runs.left;
     let mut target = &mut buffer[..count];
     for run in runs {
@@ -21,7 +21,18 @@ pub fn read(image: &[u8], name: &[u8], offset: u32, buffer: &mut [u8]) -> Result
 
 /// Copies a buffer over the content of a file from an offset on and gives the count of bytes.
 pub fn write(image: &mut [u8], name: &[u8], offset: u32, buffer: &[u8]) -> Result<u32, Refusal> {
-    let runs = Runs::plan(image, name, offset, buffer.len())?;
+    write_in(checked, image, name, offset, buffer)
+}
+
+#[inline]
+pub(super) fn write_in(
+    open: Open,
+    image: &mut [u8],
+    name: &[u8],
+    offset: u32,
+    buffer: &[u8],
+) -> Result<u32, Refusal> {
+    let runs = Runs::plan(open, image, name, offset, buffer.len())?;
     let count = runs.left;
     let mut source = &buffer[..count];
     for run in runs {
@@ -32,6 +43,30 @@ pub fn write(image: &mut [u8], name: &[u8], offset: u32, buffer: &[u8]) -> Resul
     Ok(count as u32)
 }
 
+/// Tells whether a read into a buffer of some length would give exactly these bytes.
+pub(super) fn reads_in(
+    open: Open,
+    image: &[u8],
+    name: &[u8],
+    offset: u32,
+    length: u32,
+    bytes: &[u8],
+) -> Result<bool, Refusal> {
+    let runs = Runs::plan(open, image, name, offset, length as usize)?;
+    if runs.left != bytes.len() {
+        return Ok(false);
+    }
+    let mut rest = bytes;
+    for run in runs {
+        let (part, behind) = rest.split_at(run.len());
+        if part != &image[run] {
+            return Ok(false);
+        }
+        rest = behind;
+    }
+    Ok(true)
+}
+
 /// The parts of an image that hold a stretch of a file, neighbouring blocks joined.
 struct Runs {
     inode: Block,
@@ -40,8 +75,15 @@ struct Runs {
 }
 
 impl Runs {
-    fn plan(image: &[u8], name: &[u8], offset: u32, room: usize) -> Result<Self, Refusal> {
-        let volume = Volume::checked(image)?;
+    #[inline]
+    fn plan(
+        open: Open,
+        image: &[u8],
+        name: &[u8],
+        offset: u32,
+        room: usize,
+    ) -> Result<Self, Refusal> {
+        let volume = open(image)?;
         let (_, number) = volume.lookup(name)?;
         let inode = volume.inode(number);
         let behind = file_size(inode)

@@ -8,8 +8,37 @@ use crate::Refusal;
 
 /// Tells whether a volume is consistent, or gives its first fault.
 pub fn check(image: &[u8]) -> Result<(), Refusal> {
-    Volume::checked(image).map(drop)
+    checked(image).map(drop)
 }
+
+/// Checks an image and keeps its decoded directory.
+pub(super) fn checked(image: &[u8]) -> Result<Volume<'_>, Refusal> {
+    let blocks = blocks(image);
+    if blocks.len() <= DIRECTORY {
+        return Err(Refusal::plain(1));
+    }
+    check_label(&blocks[0])?;
+    let slots = check_directory(blocks)?;
+    let claimed = check_claims(blocks, &slots)?;
+    check_map(blocks, &claimed)?;
+    Ok(Volume { blocks, slots })
+}
+
+/// Takes an image that is known to be a consistent volume, and decodes its directory.
+pub(super) fn known(image: &[u8]) -> Result<Volume<'_>, Refusal> {
+    let blocks = blocks(image);
+    let mut decoded = [Slot::Free; SLOTS];
+    for (slot, raw) in decoded.iter_mut().zip(slots(&blocks[DIRECTORY])) {
+        *slot = Slot::decode(raw, blocks.len()).expect("a slot of a consistent volume");
+    }
+    Ok(Volume {
+        blocks,
+        slots: decoded,
+    })
+}
+
+/// How a request comes by its volume: by the check, or without it where that has been done.
+pub(super) type Open = for<'a> fn(&'a [u8]) -> Result<Volume<'a>, Refusal>;
 
 /// A consistent volume.
 pub(super) struct Volume<'a> {
@@ -18,19 +47,6 @@ pub(super) struct Volume<'a> {
 }
 
 impl<'a> Volume<'a> {
-    /// Checks an image and keeps its decoded directory.
-    pub(super) fn checked(image: &'a [u8]) -> Result<Self, Refusal> {
-        let blocks = blocks(image);
-        if blocks.len() <= DIRECTORY {
-            return Err(Refusal::plain(1));
-        }
-        check_label(&blocks[0])?;
-        let slots = check_directory(blocks)?;
-        let claimed = check_claims(blocks, &slots)?;
-        check_map(blocks, &claimed)?;
-        Ok(Self { blocks, slots })
-    }
-
     /// The slot and inode number of a standing name.
     pub(super) fn find(&self, wanted: &Name) -> Option<(usize, u32)> {
         self.slots

@@ -47,7 +47,7 @@ struct Tree<'a> {
     folder: &'a Path,
     /// The folder as it is called while it is filled.
     inside: &'a Path,
-    /// The names from the root list to the entry at hand.
+    /// The names from the root list to the current entry.
     names: Vec<&'a OsStr>,
     /// The headers that hard links lead to, each read once however many do.
     targets: HashMap<u32, Header<'a>>,
@@ -83,7 +83,7 @@ impl<'a> Tree<'a> {
         self.skipped += &format!("skipped {path}: {why}\n");
     }
 
-    /// Makes the entry at hand, or gives the reason to skip it.
+    /// Makes the current entry, or gives the reason to skip it.
     fn place(&mut self, header: &Header<'a>) -> Result<Option<String>, Failure> {
         let Some(meant) = self.meant(header) else {
             return Err(unread(self.image, header.at));
@@ -142,7 +142,7 @@ impl<'a> Tree<'a> {
         content.ok_or_else(|| io::Error::other("the content lies outside of the image"))
     }
 
-    /// The path of the entry at hand below a folder.
+    /// The path of the current entry below a folder.
     fn below(&self, folder: &Path) -> PathBuf {
         self.names
             .iter()

@@ -1,4 +1,4 @@
-//! romfs images by hand.
+//! romfs images built by the tests alone.
 
 use super::some;
 

@@ -4,9 +4,9 @@ use Prim.Native.Nat.{ℕ, _*_}
 use denote.Ref.{now}
 use borrow.Author.Needs.{needs}
 use Rattle.tfs_spec.specs.Requests.{value}
 use Rattle.tfs_steps.specs.Ready.{long}
-use Rattle.tfs.proofs.look.free_step.Statement.{statement}
-use Rattle.tfs.proofs.look.free_step.Tie as tie
+use Rattle.tfs_steps.proofs.free.free_step.Statement.{statement}
+use Rattle.tfs_steps.proofs.free.free_step.Tie as tie
 
 pub free-step-spec : {M : Type 1} → statement M
 free-step-spec =

@@ -1,0 +1,4 @@
+pub mod Told
+pub mod Agree
+pub mod Runs
+pub mod Records

@@ -1,0 +1,52 @@
+-- Bytes compared by runs.
+use mathlib.Core.Path.{_≡_, refl, sym, ap, _∙_}
+use mathlib.Core.Bool.{Bool, true, _&&_, and-assoc}
+use Prim.Native.Nat.{ℕ, _+_, _-_, _%_, _≤_}
+use mathlib.Core.List.{List, [], _∷_, _++_}
+use native.Mathlib.Omega.{arith}
+use native.Mathlib.Nat.{add-zero, sub-zero}
+use lib.Dec.{eqb}
+use lib.ListN.{length, getD, take, drop, length-drop, take-append-drop, drop-of-length-le}
+use lib.Seq.{drop-drop, length-take-le}
+use Rattle.lists.specs.Lists.{sameList, table}
+use Rattle.list_laws.specs.Table.{length-table}
+use Rattle.tfs_runs.specs.Place.{at}
+use Rattle.tfs_runs.specs.Read.{table-join, table-run}
+
+-- lists compared part by part
+same-append : (a b c d : List ℕ) → length a ≡ length c → sameList (a ++ b) (c ++ d) ≡ (sameList a c && sameList b d)
+same-append [] b [] d e = refl
+same-append [] b (y ∷ c) d e = absurd (omega (arith, e))
+same-append (x ∷ a) b [] d e = absurd (omega (arith, e))
+same-append (x ∷ a) b (y ∷ c) d e =
+    ap (λ (t : Bool). eqb x y && t) (same-append a b c d (omega (arith, e))) ∙ sym (and-assoc (eqb x y) (sameList a c) (sameList b d))
+
+-- one run: a part of the image
+pub same-run : (img bs bytes : List ℕ) (p s n : ℕ) → s ≡ at bs p → p % 512 + length bytes ≤ 512 → s + length bytes ≤ length img → n ≡ length bytes → sameList bytes (take n (drop s img)) ≡ sameList bytes (table (λ q. getD img (at bs q) 0) p (length bytes))
+same-run img bs bytes p s n e h l m = rw (m, e) (ap (sameList bytes) (sym (table-run img bs p (length bytes) h (rw e at l))))
+
+-- the rest behind d bytes: its first r, then the rest behind those
+abbrev pub SameFrom : (ℕ → ℕ) → ℕ → List ℕ → ℕ → Bool
+SameFrom f o bytes d = sameList (drop d bytes) (table f (o + d) (length bytes - d))
+
+pub same-turn : (f : ℕ → ℕ) (o d r n : ℕ) (bytes : List ℕ) (t : Bool) → d + r ≤ length bytes → n ≡ r → t ≡ sameList (take n (drop d bytes)) (table f (o + d) (length (take n (drop d bytes)))) → SameFrom f o bytes d ≡ (t && SameFrom f o bytes (d + r))
+same-turn f o d r n bytes t h m e =
+    let short : length (take r (drop d bytes)) ≡ r = length-take-le r (drop d bytes) (simp length-drop (omega arith)) in
+    let a : o + (d + r) ≡ o + d + r = omega arith in
+    let b : r + (length bytes - (d + r)) ≡ length bytes - d = omega arith in
+    let tables : table f (o + d) r ++ table f (o + (d + r)) (length bytes - (d + r)) ≡ table f (o + d) (length bytes - d) =
+    rw a (table-join f (o + d) r (length bytes - (d + r)) ∙ ap (table f (o + d)) b) in
+    rw (e, m, short)
+    (ap (λ (l : List ℕ). sameList l (table f (o + d) (length bytes - d))) (sym (take-append-drop r (drop d bytes)))
+    ∙ ap (sameList (take r (drop d bytes) ++ drop r (drop d bytes))) (sym tables)
+    ∙ same-append (take r (drop d bytes)) (drop r (drop d bytes)) (table f (o + d) r) (table f (o + (d + r)) (length bytes - (d + r))) (short ∙ sym (length-table f (o + d) r))
+    ∙ ap (λ (l : List ℕ). sameList (take r (drop d bytes)) (table f (o + d) r) && sameList l (table f (o + (d + r)) (length bytes - (d + r)))) (drop-drop r d bytes))
+
+-- all of it, and nothing left
+pub same-start : (f : ℕ → ℕ) (o : ℕ) (bytes : List ℕ) → SameFrom f o bytes 0 ≡ sameList bytes (table f o (length bytes))
+same-start f o bytes = rw (add-zero, sub-zero)
+
+pub same-end : (f : ℕ → ℕ) (o d : ℕ) (bytes : List ℕ) → length bytes ≤ d → true ≡ SameFrom f o bytes d
+same-end f o d bytes h =
+    let none : length bytes - d ≡ 0 = omega arith in
+    rw (none, drop-of-length-le bytes h)

@@ -1,0 +1,5 @@
+pub mod Drafts
+pub mod Puts
+pub mod Halves
+pub mod Records
+pub mod DraftLaws

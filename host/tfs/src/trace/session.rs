@@ -1,0 +1,218 @@
+//! Requests on a volume, each noted down with its answer.
+
+use super::{append, malformed};
+use crate::failure::Failure;
+use crate::files::{self, Prepared};
+use crate::image::Image;
+use crate::volume::LARGEST_FILE;
+use proved::trace::{kind, Entry, Record};
+use proved::{tfs, Refusal};
+use std::path::{Path, PathBuf};
+
+/// Requests and their answers, behind those of a trace that they are to be added to.
+#[derive(Default)]
+pub struct Session {
+    /// The file of the trace, if there is to be one.
+    path: Option<PathBuf>,
+    trace: Vec<u8>,
+    /// Whether a request has changed the volume.
+    changed: bool,
+}
+
+impl Session {
+    /// Goes on with the trace of a file, which may be missing; without a path nothing is kept.
+    pub fn open(path: Option<&Path>, image: &Path) -> Result<Self, Failure> {
+        let Some(path) = path else {
+            return Ok(Self::default());
+        };
+        files::apart(path, image, "the image")?;
+        let trace = files::read_if_there(path)?;
+        if let Some(failure) = malformed(path, &trace) {
+            return Err(failure);
+        }
+        Ok(Self {
+            path: Some(path.to_path_buf()),
+            trace,
+            changed: false,
+        })
+    }
+
+    /// The trace with all that was noted.
+    pub fn trace(&self) -> &[u8] {
+        &self.trace
+    }
+
+    /// Creates a file.
+    pub fn create(&mut self, volume: &mut [u8], name: &[u8], size: u32) -> Result<(), Refusal> {
+        let answer = tfs::create(volume, name, size).map(drop);
+        let entry = Entry {
+            kind: kind::CREATE,
+            size: size.into(),
+            ..Entry::default()
+        };
+        self.changed |= answer.is_ok();
+        self.note(entry, name, b"", answer.map(|()| 0))?;
+        answer
+    }
+
+    /// Removes a file.
+    pub fn remove(&mut self, volume: &mut [u8], name: &[u8]) -> Result<(), Refusal> {
+        let answer = tfs::remove(volume, name);
+        let entry = Entry {
+            kind: kind::REMOVE,
+            ..Entry::default()
+        };
+        self.changed |= answer.is_ok();
+        self.note(entry, name, b"", answer.map(|()| 0))?;
+        answer
+    }
+
+    /// Reads a file into a buffer of some length; what it gives.
+    pub fn read(
+        &mut self,
+        volume: &[u8],
+        name: &[u8],
+        offset: u32,
+        length: u32,
+    ) -> Result<Vec<u8>, Refusal> {
+        // A longer buffer would not hold more: no file has more bytes.
+        let mut bytes = vec![0; length.min(LARGEST_FILE) as usize];
+        let answer = tfs::read(volume, name, offset, &mut bytes);
+        bytes.truncate(answer.unwrap_or(0) as usize);
+        let entry = Entry {
+            kind: kind::READ,
+            offset: offset.into(),
+            length: length.into(),
+            ..Entry::default()
+        };
+        self.note(entry, name, &bytes, answer.map(|_| 0))?;
+        answer.map(|_| bytes)
+    }
+
+    /// Writes bytes into a file; the count.
+    pub fn write(
+        &mut self,
+        volume: &mut [u8],
+        name: &[u8],
+        offset: u32,
+        bytes: &[u8],
+    ) -> Result<u32, Refusal> {
+        let answer = tfs::write(volume, name, offset, bytes);
+        let entry = Entry {
+            kind: kind::WRITE,
+            offset: offset.into(),
+            ..Entry::default()
+        };
+        self.changed |= answer.is_ok();
+        self.note(entry, name, bytes, answer)?;
+        answer
+    }
+
+    /// The free bytes.
+    pub fn free_bytes(&mut self, volume: &[u8]) -> Result<u32, Refusal> {
+        let answer = tfs::free_bytes(volume);
+        let entry = Entry {
+            kind: kind::FREE_BYTES,
+            ..Entry::default()
+        };
+        self.note(entry, b"", b"", answer)?;
+        answer
+    }
+
+    /// Makes the request of a record, whatever answer that expects.
+    pub fn ask(&mut self, volume: &mut [u8], record: &Record<'_>) {
+        let Record { entry, name, bytes } = *record;
+        let offset = entry.offset as u32;
+        // The answer is what is noted.
+        let _ = match entry.kind {
+            kind::CREATE => self.create(volume, name, entry.size as u32),
+            kind::REMOVE => self.remove(volume, name),
+            kind::READ => self
+                .read(volume, name, offset, entry.length as u32)
+                .map(drop),
+            kind::WRITE => self.write(volume, name, offset, bytes).map(drop),
+            _ => self.free_bytes(volume).map(drop),
+        };
+    }
+
+    /// Notes a request with its answer. A refusal of this is that of a length of 2^32 or more.
+    fn note(
+        &mut self,
+        entry: Entry,
+        name: &[u8],
+        bytes: &[u8],
+        answer: Result<u32, Refusal>,
+    ) -> Result<(), Refusal> {
+        let (refusal, value) = match answer {
+            Ok(value) => (0, value),
+            Err(refusal) => (refusal.number, 0),
+        };
+        let entry = Entry {
+            refusal: refusal.into(),
+            value: value.into(),
+            ..entry
+        };
+        append(&mut self.trace, &Record { entry, name, bytes })
+    }
+
+    /// Ends with a refusal, which is noted, unless the volume was changed before it: that is lost
+    /// with the refusal, and a trace of it would not fit the image.
+    pub fn refused(self, image: &Image, refusal: Refusal) -> Failure {
+        let noted = match self.changed {
+            true => Ok(()),
+            false => self.save(),
+        };
+        noted.err().unwrap_or_else(|| image.refused(refusal))
+    }
+
+    /// Writes the trace alone.
+    pub fn save(self) -> Result<(), Failure> {
+        self.prepare()?.map_or(Ok(()), Prepared::put_in_place)
+    }
+
+    /// Writes the trace beside its place, lets a file be written, and then puts the trace in place.
+    pub fn save_with(
+        self,
+        file: &Path,
+        write: impl FnOnce() -> Result<(), Failure>,
+    ) -> Result<(), Failure> {
+        let prepared = self.prepare()?;
+        write()?;
+        let placed = prepared.map_or(Ok(()), Prepared::put_in_place);
+        placed.map_err(|failure| failure.but_changed(file))
+    }
+
+    fn prepare(&self) -> Result<Option<Prepared>, Failure> {
+        let prepare = |path: &PathBuf| files::prepare(path, &self.trace);
+        self.path.as_ref().map(prepare).transpose()
+    }
+}
+
+#[cfg(test)]
+mod tests {
+    use super::*;
+    use std::fs;
+
+    /// The trace's place becomes a folder after the trace is written beside it.
+    #[test]
+    fn a_trace_that_cannot_be_put_in_place_is_told() {
+        let folder = std::env::temp_dir().join(format!("tfs-session-{}", std::process::id()));
+        fs::create_dir(&folder).unwrap();
+        let (image, trace) = (folder.join("v"), folder.join("t"));
+        let session = Session::open(Some(&trace), &image).unwrap();
+        let saved = session.save_with(&image, || {
+            fs::create_dir(&trace).unwrap();
+            files::write(&image, b"new")
+        });
+        let failure = saved.unwrap_err();
+        let told = format!(
+            "{}: Is a directory (os error 21); {} has been changed, the trace has not",
+            trace.display(),
+            image.display()
+        );
+        assert_eq!((failure.status(), failure.to_string()), (3, told));
+        assert_eq!(fs::read(&image).unwrap(), b"new");
+        assert_eq!(fs::read_dir(&folder).unwrap().count(), 2);
+        fs::remove_dir_all(&folder).unwrap();
+    }
+}
