@@ -2,7 +2,13 @@
 # Measures times, code size and stack use, and prints docs/BENCHMARKS.md:
 #
 #     host/bench/report.sh >docs/BENCHMARKS.md
+#
+# Where BEFORE names an older libtfs_c.a, its free bytes is timed too.
 set -eu
+if [ -n "${BEFORE:-}" ]; then
+    BEFORE=$(realpath "$BEFORE")
+    export BEFORE
+fi
 cd "$(dirname "$0")"
 libraries=../../target/staticlib
 work=$(mktemp -d)
@@ -22,14 +28,25 @@ Nothing in the tests depends on a time.
 - *proved*: the request through its C interface, from the static library.
 - *reference*: the same request of `host/reference`, in Rust with `--release`.
 - *copy*: a plain `memcpy` of the same bytes.
+- *C*: the ones of the map's words by `__builtin_popcount`, the last word masked at N, called on the map block with no check;
+  `gcc -O2 -std=c99 -Wall -Wextra -Werror -pedantic`, where each word is a call of libgcc, as there is no `-mpopcnt`.
+TEXT
+if [ -n "${BEFORE:-}" ]; then
+    echo '- *before*: the same request of the older static library that `BEFORE` names, linked into the same process.'
+fi
+cat <<'TEXT'
 
 All are run in turn in one process, in batches of about 0.1 ms, and the best batch of 2,000 rounds counts (of fewer rounds where
 one operation lasts long). Every request but format checks the whole volume first, so each time has a check in it.
 
-Times less the check are differences of two measurements, and vary most from run to run.
+Times less the check are differences of two measurements, and vary most from run to run. Of free bytes they are medians over all
+rounds, on eight volumes at eight places in a page; the reference's check is compiled into each of its requests, so that its
+difference is not its count alone. A dash stands for a ratio with a difference below the clock's noise.
 
 A volume of 2 MiB is full when its 25 slots are used: 25 files of 65,024 bytes have 3,200 of its 4,093 blocks. There, create and
-remove are timed as remove and create. Leftovers, where there are any, fill the name bytes behind the first zero of every slot.
+remove are timed as remove and create. It is half full with 16 such files; solid where their blocks stand one after another, as
+create gives them, and scattered where they lie anywhere. Leftovers, where there are any, fill the name bytes behind the first
+zero of every slot.
 
 A replay checks the volume once; *one by one* is the same requests as separate calls of the proved library, each with its check,
 and with no comparison of the answers.

@@ -6,3 +6,4 @@ pub mod Word
 pub mod Bits
 pub mod Part
 pub mod Store
+pub mod Ones

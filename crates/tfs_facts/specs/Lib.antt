@@ -3,6 +3,7 @@ pub mod Slots
 pub mod Claims
 pub mod CheckMeans
 pub mod MapWords
+pub mod MapOnes
 pub mod Room
 pub mod Total
 pub mod Sizes

@@ -7,11 +7,11 @@ use native.Mathlib.Omega.{arith}
 use mathlib.Core.List.{List, _∷_}
 use lib.ListN.{length, getD, drop}
 use lib.Seq.{drop-cons}
-use Rattle.lists.specs.Lists.{sum, count}
-use Rattle.tfs_spec.specs.Layout.{mapBit, View, freeBlocks}
-use Rattle.tfs_facts.specs.Room.{free-below, free-member}
+use Rattle.lists.specs.Lists.{count}
+use Rattle.tfs_spec.specs.Layout.{mapBit, View, freeBlocks, onesBelow}
+use Rattle.tfs_facts.specs.MapOnes.{ones-zeros}
+use Rattle.tfs_facts.specs.Room.{free-below}
 use Rattle.tfs_spec.specs.Requests.{freeFrom}
-use Rattle.tfs_map.specs.Under.{Under}
 
 -- how many of the first n blocks are free
 unfoldable pub freeBelow : List ℕ → ℕ → ℕ
@@ -21,18 +21,10 @@ pub free-blocks : (v : View) → freeBlocks v ≡ freeBelow (v .map) (v .n)
 unfolding freeBlocks freeBelow
 free-blocks v = refl
 
--- one block more
-pub free-none : (map : List ℕ) → freeBelow map 0 ≡ 0
-unfolding freeBelow sum
-free-none map = refl
-
-pub free-held : (map : List ℕ) (n : ℕ) → mapBit map n ≡ true → freeBelow map (n + 1) ≡ freeBelow map n
-unfolding freeBelow sum
-free-held map n e = rw (add-one, e) (omega arith)
-
-pub free-more : (map : List ℕ) (n : ℕ) → mapBit map n ≡ false → freeBelow map (n + 1) ≡ freeBelow map n + 1
-unfolding freeBelow sum
-free-more map n e = rw (add-one n, e)
+-- a block is free where its bit is not one
+pub free-ones : (map : List ℕ) (n : ℕ) → freeBelow map n + onesBelow map n ≡ n
+unfolding freeBelow
+free-ones map n = ones-zeros map n
 
 -- the lowest free block from k on among the next d, or k + d
 unfoldable pub nextFree : List ℕ → ℕ → ℕ → ℕ
@@ -95,9 +87,3 @@ turn map n i k x h e l r =
 pub free-length : (map : List ℕ) (n : ℕ) → length (freeFrom map 0 n) ≡ freeBelow map n
 unfolding freeBelow
 free-length map n = free-below map n
-
--- and each lies in the range
-pub free-under : (map : List ℕ) (k d : ℕ) → Under (k + d) (freeFrom map k d)
-free-under map k d i h = free-member map k d i h .high
-
--- ---- the lowest of them, as pick takes them

@@ -1,7 +1,7 @@
 // The free blocks.
 ghost use mathlib.Core.Path.{_≡_};
 ghost use mathlib.Core.List.{_++_};
-ghost use Prim.Native.Nat.{_+_, _-_, _*_, _≤_, _<_};
+ghost use Prim.Native.Nat.{_+_, _-_, _≤_, _<_};
 ghost use lib.ListN.{length, take, drop};
 ghost use Rattle.tfs_spec.specs.Requests.{freeFrom};
 ghost use Rattle.tfs_map.specs.Free.{freeBelow, nextFree};
@@ -9,51 +9,15 @@ ghost use Rattle.tfs_map.specs.Words.{wordHeld, heldFrom};
 use crate::bit::map_bit;
 use spans::words::word_is;
 use tfs_layout::FILE_BLOCKS;
+use tfs_ones::ones_below;
 
-// How many blocks from `from` on and below `to` are free.
-fn free_bits(map: &[u8], from: usize, to: usize) -> usize
-    requires { ⌜ (length (now map) ≡ 512) × (from ≤ to) × (to ≤ 4096) ⌝ }
-    ensures { λ r. ⌜ (freeBelow (now (map .entry)) from + r ≡ freeBelow (now (map .entry)) to) × (from + r ≤ to) ⌝ }
-{
-    let mut free = 0;
-    let mut b = from;
-    while b < to {
-        if !map_bit(map, b) {
-            free += 1;
-        }
-        b += 1;
-    }
-    free
-}
-
-// How many of the 32 blocks of word k are free: a word of ones or of zeros is told at once.
-fn free_word(map: &[u8], k: usize) -> usize
-    requires { ⌜ (length (now map) ≡ 512) × (k < 128) ⌝ }
-    ensures { λ r. ⌜ (freeBelow (now (map .entry)) (32 * k) + r ≡ freeBelow (now (map .entry)) (32 * k + 32)) × (r ≤ 32) ⌝ }
-{
-    if word_is(map, k, 255) {
-        return 0;
-    }
-    if word_is(map, k, 0) {
-        return 32;
-    }
-    let from = 32 * k;
-    free_bits(map, from, from + 32)
-}
-
-// How many of the first n blocks are free: whole words first.
+// How many of the first n blocks are free: those whose bit is not one.
 pub fn free_count(map: &[u8], n: usize) -> usize
     requires { ⌜ (length (now map) ≡ 512) × (n ≤ 4096) ⌝ }
     ensures { λ r. ⌜ (r ≡ freeBelow (now (map .entry)) n) × (r ≤ n) ⌝ }
 {
-    let words = n / 32;
-    let mut free = 0;
-    let mut k = 0;
-    while k < words {
-        free += free_word(map, k);
-        k += 1;
-    }
-    free + free_bits(map, 32 * words, n)
+    let ones = ones_below(map, n);
+    n - ones
 }
 
 // Whether b begins a word below n of reserved blocks only.

@@ -7,7 +7,9 @@ use Rattle.tfs_spec.specs.Layout.{labelAllowed, view}
 use Rattle.tfs_spec.specs.Check.{check}
 use Rattle.tfs_spec.specs.Requests.{Answer, granted, format, checkAnswer, perform}
 use Rattle.tfs_spec.specs.Replays.{run}
+use Rattle.list_laws.specs.Ones.{ones-cut}
 use Rattle.tfs_facts.specs.CheckMeans.{check-means, check-breaks, same-means}
+use Rattle.tfs_facts.specs.MapOnes as counted
 use Rattle.tfs_facts.specs.Sizes.{size-512}
 use Rattle.tfs_facts.specs.Total.{adds-up}
 use Rattle.tfs_facts.specs.Views.{view-n}
@@ -122,6 +124,13 @@ statements =
         freed = removed-room B sz img ok;
         taken = created-room B sz img ok;
         written = written-room B sz img ok;
+      };
+      count-laws = record {
+        starts = counted.starts;
+        cut = ones-cut;
+        whole = λ map w n small. counted.whole map small w n;
+        by-words = λ map n small. counted.by-words map small n;
+        others = counted.others;
       };
       transfer-laws = transfer-law;
       history-laws = history-law;

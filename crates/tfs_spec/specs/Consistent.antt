@@ -2,12 +2,13 @@
 use mathlib.Core.Path.{_≡_}
 use mathlib.Core.Logic.{_≢_, _↔_, _⊎_}
 use mathlib.Core.Bool.{not}
-use Prim.Native.Nat.{ℕ, _+_, _*_, _/_, _%_, _^_, _≤_, _<_}
+use Prim.Native.Nat.{ℕ, _+_, _-_, _*_, _/_, _%_, _^_, _≤_, _<_}
 use mathlib.Core.List.{List}
 use lib.ListN.{length, getD}
-use lib.Dec.{T}
-use Rattle.lists.specs.Lists.{word, bytes4, part}
-use Rattle.tfs_spec.specs.Layout.{BlockSize, maxBlocks, slots, numbers, maxSize, need, blocks, block, volumeName, mapBit, sameName, view, free, used, inode, name, size, number, place, View}
+use lib.Dec.{T, eqb}
+use lib.Count.{ones}
+use Rattle.lists.specs.Lists.{count, word, bytes4, bitOf, part}
+use Rattle.tfs_spec.specs.Layout.{BlockSize, maxBlocks, slots, numbers, maxSize, need, blocks, block, volumeName, mapBit, sameName, view, free, used, inode, name, size, number, place, View, freeBlocks, onesBelow, wordsBelow, onesByWords}
 
 -- "All numbers are big-endian": the number in bytes p to p + 3
 abbrev pub numberAt : List ℕ → ℕ → ℕ
@@ -81,6 +82,19 @@ pub record NumberLaws : Type 0 where
   pub file : maxSize 512 ≡ 65024
   -- the four bytes of a number below 2^32 are bytes, and tell it
   pub bytes : (n : ℕ) → n < 4294967296 → Bytes (bytes4 n) × (numberAt (bytes4 n) 0 ≡ n)
+
+-- ---- free room counted by words
+pub record CountLaws : Type 0 where
+  -- "each 32-bit word of the map that starts below N": word w with 32·w < N
+  pub starts : (w n : ℕ) → (w < wordsBelow n) ↔ (32 * w < n)
+  -- the ones of a number cut at bit m are its bits below m that are 1
+  pub cut : (x m : ℕ) → ones (x % 2 ^ m) ≡ count (λ k. eqb (bitOf x k) 1) m
+  -- "the last of these cut at N": a word that ends at N or before is whole
+  pub whole : (map : List ℕ) (w n : ℕ) → Bytes map → 32 * w + 32 ≤ n → word map (4 * w) % 2 ^ (n - 32 * w) ≡ word map (4 * w)
+  -- "the sum equal to the set bits below N for any map, consistent or not"
+  pub by-words : (map : List ℕ) (n : ℕ) → Bytes map → onesByWords map n ≡ onesBelow map n
+  -- the other bits below N are free blocks
+  pub others : (v : View) → freeBlocks v + onesBelow (v .map) (v .n) ≡ v .n
 
 -- ---- a consistent volume; that the check grants exactly these is said in Answers.antt
 -- slot s is not free: on a consistent volume it holds a file

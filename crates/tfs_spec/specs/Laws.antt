@@ -9,7 +9,7 @@ use lib.ListN.{length, getD}
 use lib.Dec.{T, leb, ltb}
 use Rattle.lists.specs.Lists.{table, joined, zeros}
 use Rattle.tfs_spec.specs.Layout.{slots, block, slot, sameName, view, name, size, place, contents, BlockSize}
-use Rattle.tfs_spec.specs.Consistent.{File, Consistent, Bytes, LayoutLaws, NameLaws, NumberLaws}
+use Rattle.tfs_spec.specs.Consistent.{File, Consistent, Bytes, LayoutLaws, NameLaws, NumberLaws, CountLaws}
 use Rattle.tfs_spec.specs.Requests.{Answer, done, value, granted, countOf, Outcome, create, remove, write, Change, perform}
 use Rattle.tfs_spec.specs.Answers.{CheckLaws, RefusalLaws, LabelRule, Stands, GrantLaws}
 use Rattle.tfs_spec.specs.Effects.{nameOn, ContentLaws, ChangeLaws, TouchLaws, FormatLaws, TransferLaws, SameSlot, KeptLaws, ByteLaws, RoomLaws}
@@ -108,9 +108,10 @@ pub record RequestLaws (B : ℕ) (img : List ℕ) : Type 0 where
 
 -- ---- all statements, each with its premises; tfs_proofs/specs/Proved.antt proves each. The starred numbers are in starred/specs/Starred.antt
 pub record Statements : Type 0 where
-  -- of numbers, names, traces, and the numbers in the replay program's line
+  -- of numbers, names, maps, traces, and the numbers in the replay program's line
   pub number-laws : NumberLaws
   pub name-laws : NameLaws
+  pub count-laws : CountLaws
   pub trace-laws : TraceLaws
   pub line-laws : LineLaws
   -- of every image

@@ -1,12 +1,13 @@
 -- The TFS layout, over the block size B: 512 in the code.
 use mathlib.Core.Path.{_≡_}
 use mathlib.Core.Bool.{Bool, _&&_, not, cond}
-use Prim.Native.Nat.{ℕ, _+_, _-_, _*_, _/_, _%_, _≤_, min}
+use Prim.Native.Nat.{ℕ, _+_, _-_, _*_, _/_, _%_, _^_, _≤_, min}
 use mathlib.Core.List.{List, [], _∷_, _++_}
 use mathlib.Core.Option.{Option, none, some}
 use lib.ListN.{length, getD, set}
 use lib.Dec.{leb, ltb, eqb}
-use Rattle.lists.specs.Lists.{sameList, zeroAt, firstZero, upToZero, padTo, word, bytes4, words, bitOf, withBit, part, withPart, least, count, table}
+use lib.Count.{ones}
+use Rattle.lists.specs.Lists.{sameList, zeroAt, firstZero, upToZero, padTo, word, bytes4, words, bitOf, withBit, part, withPart, least, sum, count, table}
 
 -- block sizes of the statements: 512 or larger, and whole 32-bit words
 pub record BlockSize (B : ℕ) : Type 0 where
@@ -208,3 +209,15 @@ contents B img nm =
 -- "zero bits below N"
 unfoldable pub freeBlocks : View → ℕ
 freeBlocks v = count (λ b. not (mapBit (v .map) b)) (v .n)
+
+-- "the set bits below N"
+unfoldable pub onesBelow : List ℕ → ℕ → ℕ
+onesBelow map n = count (mapBit map) n
+
+-- how many words of the map start below n
+abbrev pub wordsBelow : ℕ → ℕ
+wordsBelow n = (n + 31) / 32
+
+-- "the ones of each 32-bit word of the map that starts below N, the last of these cut at N": every word is cut at N, and only the last can lose bits by it
+unfoldable pub onesByWords : List ℕ → ℕ → ℕ
+onesByWords map n = sum (λ w. ones (word map (4 * w) % 2 ^ (n - 32 * w))) (wordsBelow n)

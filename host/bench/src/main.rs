@@ -5,11 +5,14 @@
 //! ```
 //!
 //! Each time is the best of R rounds (2000 unless given, fewer where one lasts long), in which the proved request, the
-//! reference and a plain copy of the same bytes take turns. Nothing passes or fails by time.
+//! reference and what else is timed beside them take turns; of free bytes less the check it is the median. Nothing passes
+//! or fails by time.
 
-#![forbid(unsafe_code)]
+#![deny(unsafe_code)]
 
+mod linked;
 mod on_romfs;
+mod on_room;
 mod on_tfs;
 mod on_traces;
 mod race;
@@ -32,6 +35,7 @@ fn main() -> ExitCode {
     on_tfs::requests(rounds);
     on_tfs::short_transfers(rounds);
     on_tfs::transfers(rounds);
+    on_room::free_bytes(rounds);
     on_tfs::growth(rounds);
     on_traces::replays(rounds);
     on_traces::records(rounds);

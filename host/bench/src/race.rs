@@ -30,19 +30,26 @@ impl<'a> Race<'a> {
     }
 
     /// Gives the nanoseconds of each operation in its best round.
-    pub fn run(mut self) -> Vec<f64> {
-        let batches: Vec<usize> = self.lanes.iter_mut().map(batch).collect();
+    pub fn run(self) -> Vec<f64> {
         let mut best = vec![f64::INFINITY; self.lanes.len()];
-        let start = Instant::now();
-        for round in 0..self.rounds {
-            if round >= 5 && start.elapsed().as_secs() >= LONG {
-                break;
-            }
-            for (index, lane) in self.lanes.iter_mut().enumerate() {
-                best[index] = best[index].min(timed(lane, batches[index]));
+        for round in self.run_rounds() {
+            for (best, time) in best.iter_mut().zip(round) {
+                *best = best.min(time);
             }
         }
         best
+    }
+
+    /// Gives the nanoseconds of each operation in every round.
+    pub fn run_rounds(mut self) -> Vec<Vec<f64>> {
+        let batches: Vec<usize> = self.lanes.iter_mut().map(batch).collect();
+        let mut rounds = Vec::new();
+        let start = Instant::now();
+        while rounds.len() < self.rounds && (rounds.len() < 5 || start.elapsed().as_secs() < LONG) {
+            let lanes = self.lanes.iter_mut().zip(&batches);
+            rounds.push(lanes.map(|(lane, times)| timed(lane, *times)).collect());
+        }
+        rounds
     }
 }
 

@@ -54,7 +54,7 @@ pub fn ns(time: f64) -> String {
 
 /// How many times as long the first is; nothing if one of them is below the clock's noise.
 pub fn ratio(time: f64, other: f64) -> String {
-    if time <= 0.0 || other <= 0.0 {
+    if time < 1.0 || other < 1.0 {
         return "-".to_owned();
     }
     format!("{:.2}", time / other)

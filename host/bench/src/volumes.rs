@@ -1,6 +1,6 @@
 //! The volumes that are timed.
 
-use generate::tfs::{leftovers, volume, Shape};
+use generate::tfs::{leftovers, volume, volume_with_files, Shape};
 use generate::Random;
 use reference::tfs::{self, BLOCK_SIZE, LARGEST_FILE, MOST_BLOCKS, SLOTS};
 
@@ -32,6 +32,13 @@ pub fn with_files(blocks: usize, sizes: &[u32]) -> Vec<u8> {
         let name = format!("F{number}");
         tfs::create(&mut image, name.as_bytes(), *size).expect("create");
     }
+    image
+}
+
+/// The same with the blocks of the files anywhere.
+pub fn with_files_anywhere(blocks: usize, sizes: &[u32], seed: u64) -> Vec<u8> {
+    let image = volume_with_files(&mut Random::new(seed), blocks, sizes).image;
+    tfs::check(&image).expect("check");
     image
 }
 

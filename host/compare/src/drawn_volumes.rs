@@ -8,8 +8,9 @@ use reference::tfs::{BLOCK_SIZE, LARGEST_FILE, MOST_BLOCKS};
 /// A consistent volume, mostly a small one, or noise.
 pub(crate) fn any_image(random: &mut Random) -> Volume {
     match random.below(200) {
-        0 => {
-            let blocks = random.pick(&[MOST_BLOCKS, MOST_BLOCKS, MOST_BLOCKS - 1, 2048, 1000]);
+        0..=1 => {
+            let near = MOST_BLOCKS - random.pick(&[1, 31, 32]);
+            let blocks = random.pick(&[MOST_BLOCKS, MOST_BLOCKS, near, 2048, 1000]);
             let shapes = [
                 Shape::Scattered,
                 Shape::Full,
@@ -20,7 +21,7 @@ pub(crate) fn any_image(random: &mut Random) -> Volume {
             let shape = random.pick(&shapes);
             volume(random, shape, blocks)
         }
-        1..=9 => {
+        2..=9 => {
             let blocks = random.between(129, 140);
             let shape = random.pick(&[Shape::Largest, Shape::Empty, Shape::Full]);
             volume(random, shape, blocks)
@@ -35,6 +36,12 @@ pub(crate) fn any_image(random: &mut Random) -> Volume {
             volume(random, Shape::Crowded, blocks)
         }
         45..=54 => noise(random),
+        // Every place where the end can cut a word of the map, three times.
+        55..=84 => {
+            let blocks = random.between(25, 120);
+            let shape = random.pick(&[Shape::Scattered, Shape::Full, Shape::Lived]);
+            volume(random, shape, blocks)
+        }
         _ => any_volume(random, 140),
     }
 }

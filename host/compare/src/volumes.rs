@@ -1,7 +1,9 @@
 //! Sequences of requests on TFS volumes.
 
 use generate::cases::{tfs_arguments, trace_arguments};
-use generate::tfs::{damage_volume, damage_volume_twice, put_leftovers, scramble_volume, Volume};
+use generate::tfs::{
+    damage_volume, damage_volume_twice, put_leftovers, put_padding, scramble_volume, Volume,
+};
 use reference::request::{Arguments, Request};
 use reference::tfs::BLOCK_SIZE;
 
@@ -40,7 +42,7 @@ const REQUESTS: [Request; 27] = [
     Request::TfsFormat,
 ];
 
-/// Draws an image and makes a sequence of requests on it.
+/// Draws an image and makes a sequence of requests on it; the first is free bytes.
 pub(crate) fn on_next(comparison: &mut Comparison) -> Result<(), Stop> {
     let made = any_image(&mut comparison.random);
     let large = made.blocks > 500;
@@ -50,6 +52,7 @@ pub(crate) fn on_next(comparison: &mut Comparison) -> Result<(), Stop> {
         comparison.random.between(20, 80)
     };
     let mut history = History::new(comparison, made);
+    history.make(Request::TfsFree, &Arguments::default())?;
     for _ in 0..count {
         history.step()?;
         if history.comparison.random.one_in(if large { 24 } else { 6 }) {
@@ -157,11 +160,13 @@ impl<'a> History<'a> {
         Ok(())
     }
 
-    /// Leaves bytes behind names and in free slots, as another program might; requests go on then.
+    /// Leaves bytes behind names and in free slots, and padding in the map, as another program might;
+    /// requests go on then.
     fn leave(&mut self) {
         self.made.image = self.pair.image().to_vec();
         if self.made.image.len() >= 3 * BLOCK_SIZE {
             put_leftovers(&mut self.comparison.random, &mut self.made);
+            put_padding(&mut self.comparison.random, &mut self.made);
             self.pair = self.comparison.pair(&self.made.image);
         }
     }

@@ -8,7 +8,7 @@ use compare::sides::reference;
 use compare::{Answer, Lents, Side};
 use generate::cases::fnv1a;
 use generate::tfs::{has_leftovers, leftovers};
-use reference::request::{Arguments, Request};
+use reference::request::{Arguments, Request, CHECKING};
 use reference::tfs::{self, Listing, SLOTS};
 use sought::found;
 
@@ -41,16 +41,6 @@ fn names_sought_over_16_bytes() {
     assert_eq!(ours.refusal(), 13);
     assert!(matches!(theirs.refusal(), 0 | 15));
 }
-
-const CHECKING: [Request; 7] = [
-    Request::TfsCheck,
-    Request::TfsCreate,
-    Request::TfsRemove,
-    Request::TfsRead,
-    Request::TfsWrite,
-    Request::TfsList,
-    Request::TfsFree,
-];
 
 /// Checks a volume whose slots are taken for others.
 fn misread(

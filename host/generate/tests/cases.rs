@@ -5,9 +5,9 @@ mod ways;
 use std::collections::HashSet;
 
 use generate::cases::{romfs_cases, tfs_cases, Case};
-use generate::tfs::has_leftovers;
+use generate::tfs::{has_leftovers, padding};
 use reference::request::{Arguments, Request};
-use reference::tfs::{self, Listing};
+use reference::tfs::{self, Listing, BLOCK_SIZE};
 
 fn numbers(cases: &[Case]) -> HashSet<(Request, u32)> {
     cases
@@ -110,6 +110,25 @@ fn a_good_part_of_the_images_has_leftovers() {
         free += usize::from((0..25).filter(left).any(|slot| is_free(&slot)));
     }
     assert!(used > 150 && free > 150, "{used} {free}");
+}
+
+#[test]
+fn room_is_counted_wherever_the_end_cuts_a_word() {
+    let cases = tfs_cases(1, 600, false);
+    for (request, number) in [
+        (Request::TfsFree, 0),
+        (Request::TfsCreate, 0),
+        (Request::TfsCreate, 12),
+    ] {
+        let answered = |case: &&Case| (case.request, case.answer.number) == (request, number);
+        let cut = |case: &Case| {
+            let blocks = case.image.len() / BLOCK_SIZE;
+            let padded = padding(&case.image, blocks) == [!blocks.is_multiple_of(32), true];
+            padded.then_some(blocks % 32)
+        };
+        let met: HashSet<usize> = cases.iter().filter(answered).filter_map(cut).collect();
+        assert_eq!(met.len(), 32, "{request:?} {number} {met:?}");
+    }
 }
 
 #[test]

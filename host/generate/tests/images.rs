@@ -10,8 +10,8 @@ use generate::romfs::{
     damage_rom, damage_rom_twice, flat_rom, rom, scramble_rom, tree_rom, Placed, Rom, RomPlan,
 };
 use generate::tfs::{
-    any_volume, damage_slot, damage_volume, damage_volume_twice, scramble_volume, volume, Shape,
-    SlotFault, Volume,
+    any_volume, damage_slot, damage_volume, damage_volume_twice, scramble_volume, volume,
+    volume_with_files, Shape, SlotFault, Volume,
 };
 use generate::Random;
 use reference::romfs::{self, Entry};
@@ -97,6 +97,24 @@ fn made_volumes_are_consistent() {
             assert_eq!(tfs::list(&made.image, slot as u32), Ok(listed));
         }
     }
+}
+
+#[test]
+fn volumes_with_given_files_are_consistent() {
+    let mut random = Random::new(20);
+    let sizes = [0, 1, 512, 513, 65_024, 30_000];
+    let made = volume_with_files(&mut random, 200, &sizes);
+    assert_eq!(TFS.fault(&made.image), None);
+    for (slot, size) in sizes.into_iter().enumerate() {
+        let name = format!("F{slot}");
+        let inode = made.files[slot].inode;
+        let name = name.as_bytes();
+        let listed = Listing::Used { name, inode, size };
+        assert_eq!(tfs::list(&made.image, slot as u32), Ok(listed));
+    }
+    let blocks = &made.files[4].blocks;
+    let neighbours = blocks.windows(2).filter(|two| two[0] + 1 == two[1]);
+    assert!(neighbours.count() < 10, "{blocks:?}");
 }
 
 #[test]

@@ -7,7 +7,7 @@ use generate::tfs::{
     any_volume, damage_volume, has_leftovers, leftovers, put_leftovers, volume, File, Shape, Volume,
 };
 use generate::Random;
-use reference::request::{run, Arguments, Request};
+use reference::request::{run, Arguments, Request, CHECKING};
 use reference::tfs::SLOTS;
 
 /// Whether the leftovers of a slot are the name of another file.
@@ -19,12 +19,12 @@ fn left_name(made: &Volume, slot: usize) -> bool {
     made.files.iter().any(named)
 }
 
-/// How many of 100 volumes have leftovers behind a name, in a free slot, anywhere the name of
+/// How many of 400 volumes have leftovers behind a name, in a free slot, anywhere the name of
 /// another file, and none at all.
 fn counted(shape: Shape) -> [usize; 4] {
     let mut random = Random::new(18);
     let mut counts = [0; 4];
-    for _ in 0..100 {
+    for _ in 0..400 {
         let made = volume(&mut random, shape, 40);
         let used = |slot: &usize| made.files.iter().any(|file| file.slot == *slot);
         let left = (0..SLOTS).filter(|slot| has_leftovers(&made.image, *slot));
@@ -44,12 +44,12 @@ fn counted(shape: Shape) -> [usize; 4] {
 fn volumes_have_leftovers_or_none() {
     for shape in [Shape::Scattered, Shape::Full, Shape::Lived] {
         let [used, free, named, none] = counted(shape);
-        let enough = used > 25 && free > 40 && named > 10 && none > 20;
+        let enough = used > 100 && free > 160 && named > 30 && none > 80;
         assert!(enough, "{shape:?} {used} {free} {named} {none}");
     }
     let [used, free, named, none] = counted(Shape::Crowded);
     assert!(
-        used > 50 && named > 10 && none > 20,
+        used > 200 && named > 30 && none > 80,
         "{used} {named} {none}"
     );
     assert_eq!(free, 0);
@@ -76,16 +76,6 @@ fn name(image: &[u8], slot: usize) -> &[u8] {
     let field = &image[1028 + 20 * slot..1044 + 20 * slot];
     field.split(|&byte| byte == 0).next().unwrap()
 }
-
-const REQUESTS: [Request; 7] = [
-    Request::TfsCheck,
-    Request::TfsCreate,
-    Request::TfsRemove,
-    Request::TfsRead,
-    Request::TfsWrite,
-    Request::TfsList,
-    Request::TfsFree,
-];
 
 /// Two images of one volume that differ in leftovers only.
 struct Twins([Vec<u8>; 2]);
@@ -139,7 +129,7 @@ fn leftovers_are_ignored_and_kept() {
         let mut made = sound_or_damaged(&mut random);
         let mut twins = Twins::new(&mut random, &mut made);
         for _ in 0..20 {
-            let request = random.pick(&REQUESTS);
+            let request = random.pick(&CHECKING);
             let arguments = tfs_arguments(&mut random, &made, request);
             if twins.ask(request, &arguments) {
                 *granted.entry(request).or_default() += 1;
@@ -149,5 +139,5 @@ fn leftovers_are_ignored_and_kept() {
     }
     assert!(differing > 300, "{differing}");
     let enough = |request: &Request| granted[request] > 100;
-    assert!(REQUESTS.iter().all(enough), "{granted:?}");
+    assert!(CHECKING.iter().all(enough), "{granted:?}");
 }

@@ -42,6 +42,17 @@ pub enum Request {
     RomContent = 21,
 }
 
+/// The requests on a TFS volume that check it first, but for replay, which makes such requests.
+pub const CHECKING: [Request; 7] = [
+    Request::TfsCheck,
+    Request::TfsCreate,
+    Request::TfsRemove,
+    Request::TfsRead,
+    Request::TfsWrite,
+    Request::TfsList,
+    Request::TfsFree,
+];
+
 /// What a request is given besides the image.
 #[derive(Clone, Debug, Default, PartialEq, Eq)]
 pub struct Arguments {

@@ -258,6 +258,35 @@ fn map_bits_past_the_volume_are_no_room() {
     assert_eq!(image[512..516], [0xFF, 0xFF, 0, 0xE7]);
 }
 
+/// Makes an empty volume and sets all bits of its map from its end on.
+fn format_padded(image: &mut [u8]) {
+    format(image, b"").unwrap();
+    for block in image.len() / 512..4096 {
+        image[512 + block / 32 * 4 + 3 - block % 32 / 8] |= 1 << (block % 8);
+    }
+}
+
+#[test]
+fn room_at_every_number_of_blocks() {
+    let mut space = vec![0x5A; 512 * 4096];
+    for count in 3..=4096 {
+        let image = &mut space[..512 * count];
+        format_padded(image);
+        let map = image[512..1024].to_vec();
+        let free = count as u32 - 3;
+        assert_eq!(free_bytes(image), Ok(512 * free));
+        if (1..=128).contains(&free) {
+            let more = if free < 128 { 12 } else { 9 };
+            assert_eq!(create(image, b"a", 512 * free), plain(more));
+            assert_eq!(create(image, b"a", 512 * (free - 1)), Ok(3));
+            assert_eq!(free_bytes(image), Ok(0));
+            assert_eq!(create(image, b"b", 0), plain(12));
+            remove(image, b"a").unwrap();
+            assert_eq!(image[512..1024], map);
+        }
+    }
+}
+
 #[test]
 fn ignored_bytes_are_kept_but_by_format() {
     let mut image = blocks(9);

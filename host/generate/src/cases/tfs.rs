@@ -10,7 +10,7 @@ use super::trace_arguments::trace_arguments;
 use super::traces;
 use crate::tfs::{
     any_volume, change_case, damage_slot, damage_volume, damage_volume_twice, has_leftovers,
-    scramble_volume, volume, File, Shape, SlotFault, Volume,
+    padding, scramble_volume, volume, File, Shape, SlotFault, Volume,
 };
 use crate::Random;
 
@@ -31,9 +31,9 @@ const OTHERS: [Request; 12] = [
 
 /// Draws cases on TFS volumes: a check of every image, other requests on some of them.
 ///
-/// Every answer of every request, and every way to break a slot, comes up before the rest is left
-/// to chance. Volumes have 40 blocks at most, but about one in fifty has 129 to 133; with `large`
-/// the last few cases are on a volume of 4096 blocks.
+/// Every answer of every request, every way to break a slot, and every place where the end of a
+/// volume cuts a word of the map comes up before the rest is left to chance. Volumes have 40 blocks
+/// at most, but some have up to 133; with `large` the last few cases are on a volume of 4096 blocks.
 pub fn tfs_cases(seed: u64, count: usize, large: bool) -> Vec<Case> {
     let mut drawn = Drawn::new(seed);
     let last = if large {
@@ -146,6 +146,7 @@ fn one_of_each(drawn: &mut Drawn) {
         add(drawn, Request::TfsList, slot as u32, b"", image);
     }
     drawn.add_plain(Request::TfsFree, image);
+    room(drawn);
     drawn.add_plain(Request::TfsFormat, &image[..3 * BLOCK_SIZE - 1]);
     let crowded = volume(&mut drawn.random, Shape::Crowded, 28);
     drawn.add_plain(Request::TfsCheck, &crowded.image);
@@ -159,7 +160,7 @@ fn one_of_each(drawn: &mut Drawn) {
     traces::one_of_each(drawn, &made, &damaged);
 }
 
-/// A small volume of several files, one that has content and a name of some letters, and one that
+/// A small volume of several files, the largest of which has a name of some letters, and one that
 /// is gone. Leftovers stand behind that name and in the free slot that a create takes.
 fn volume_with_past(random: &mut Random) -> (Volume, File, File) {
     loop {
@@ -168,9 +169,11 @@ fn volume_with_past(random: &mut Random) -> (Volume, File, File) {
         if made.files.len() < 2 || !made.free_slot().is_some_and(left) {
             continue;
         }
+        let largest = made.files.iter().map(|file| file.size).max();
         let worded = |file: &&File| {
             let letters = file.name.iter().all(u8::is_ascii_alphabetic);
-            letters && (3..15).contains(&file.name.len()) && file.size > 0 && left(file.slot)
+            let words = letters && (3..15).contains(&file.name.len()) && left(file.slot);
+            words && file.size > 0 && Some(file.size) == largest
         };
         let stands = |name: &[u8]| made.files.iter().any(|file| file.name == name);
         let file = made.files.iter().find(worded).cloned();
@@ -215,6 +218,43 @@ fn names_around(file: &File, gone: &File) -> Vec<Vec<u8>> {
         [&name[..1], b"\0", &name[2..]].concat(),
         padded,
     ]
+}
+
+/// Adds free bytes on volumes whose end cuts a word of the map at every place, and creates of all
+/// the room and of a block more; and free bytes where more words count.
+fn room(drawn: &mut Drawn) {
+    for blocks in 4..=35 {
+        let made = padded_volume(&mut drawn.random, blocks);
+        drawn.add_plain(Request::TfsFree, &made.image);
+        let free = made.free_blocks();
+        for content in [free - 1, free] {
+            let size = (BLOCK_SIZE * content) as u32;
+            add(
+                drawn,
+                Request::TfsCreate,
+                size,
+                b"some new name",
+                &made.image,
+            );
+        }
+    }
+    for blocks in [63, 64, 65, 96, 128] {
+        let made = padded_volume(&mut drawn.random, blocks);
+        drawn.add_plain(Request::TfsFree, &made.image);
+    }
+}
+
+/// A volume with room, and padding set in the word of the map that its end cuts, if any, and in a
+/// later one.
+fn padded_volume(random: &mut Random, blocks: usize) -> Volume {
+    loop {
+        let shape = random.pick(&[Shape::Scattered, Shape::Full, Shape::Lived]);
+        let made = volume(random, shape, blocks);
+        let padded = padding(&made.image, blocks) == [!blocks.is_multiple_of(32), true];
+        if padded && made.free_blocks() > 0 {
+            return made;
+        }
+    }
 }
 
 /// Adds reads and writes at the ends of a file of some size, with buffers that may be empty.

@@ -58,9 +58,7 @@ fn name(random: &mut Random, file: Option<&File>, new: usize) -> Vec<u8> {
 
 /// A size of a new file, mostly one that there is room for.
 pub(super) fn size(random: &mut Random, made: &Volume) -> u32 {
-    let owned: usize = made.files.iter().map(|file| 1 + file.blocks.len()).sum();
-    let free = made.blocks.saturating_sub(3 + owned);
-    let room = (BLOCK_SIZE * free.saturating_sub(1)) as u32;
+    let room = (BLOCK_SIZE * made.free_blocks().saturating_sub(1)) as u32;
     if random.below(10) < 7 {
         let fitting = [0, 1, 512, 513, room / 2, room, room];
         return random.pick(&fitting).min(room);

@@ -2,13 +2,13 @@
 
 use reference::tfs::{self, BLOCK_SIZE, SLOTS};
 
-use super::leftovers;
 use super::made::Volume;
 use super::sizes::some_size;
+use super::{leftovers, padding};
 use crate::Random;
 
 /// A volume that creates, removes and writes have made of noise and a format, while something
-/// else may have left bytes behind names and in free slots.
+/// else may have left bytes behind names and in free slots, and padding in the map.
 pub(super) fn lived(random: &mut Random, noise: Vec<u8>, blocks: usize) -> Volume {
     let mut image = noise;
     let length = random.between(0, 15);
@@ -16,6 +16,9 @@ pub(super) fn lived(random: &mut Random, noise: Vec<u8>, blocks: usize) -> Volum
     let formatted = tfs::format(&mut image, &label);
     debug_assert_eq!(formatted, Ok(()));
     let mut made = Volume::empty(blocks);
+    if !random.one_in(3) {
+        padding::put(random, &mut image, blocks);
+    }
     let leaving = !random.one_in(3);
     for _ in 0..random.between(2, 40) {
         if leaving && random.one_in(4) {

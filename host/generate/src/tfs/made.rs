@@ -47,6 +47,12 @@ impl Volume {
         (0..SLOTS).find(|slot| !used(slot))
     }
 
+    /// The number of blocks that belong to no file.
+    pub(crate) fn free_blocks(&self) -> usize {
+        let owned: usize = self.files.iter().map(|file| 1 + file.blocks.len()).sum();
+        self.blocks.saturating_sub(3 + owned)
+    }
+
     /// Takes note of a file that was created; the image is the one after that.
     pub fn created(&mut self, image: &[u8], name: &[u8], inode: u32, size: u32) {
         self.files.push(File {

@@ -5,6 +5,7 @@ mod leftovers;
 mod lived;
 mod made;
 mod names;
+mod padding;
 mod sizes;
 mod volume;
 
@@ -12,4 +13,5 @@ pub use faults::{damage_slot, damage_volume, damage_volume_twice, scramble_volum
 pub use leftovers::{has_leftovers, leftovers, put_leftovers};
 pub use made::{File, Volume};
 pub(crate) use names::{change_case, not_allowed, similar};
-pub use volume::{any_volume, volume, Shape};
+pub use padding::{padding, put_padding};
+pub use volume::{any_volume, volume, volume_with_files, Shape};

@@ -6,6 +6,7 @@ use super::leftovers;
 use super::lived::lived;
 use super::made::{File, Volume};
 use super::names::similar;
+use super::padding;
 use super::sizes::some_size;
 use crate::Random;
 
@@ -39,6 +40,9 @@ pub fn volume(random: &mut Random, shape: Shape, blocks: usize) -> Volume {
     if !random.one_in(3) {
         leftovers::put(random, &mut image, &files, &[]);
     }
+    if random.one_in(2) {
+        padding::put(random, &mut image, blocks);
+    }
     Volume {
         image,
         blocks,
@@ -65,6 +69,7 @@ pub fn any_volume(random: &mut Random, most: usize) -> Volume {
         1..=2 => random.between(3, most),
         3..=9 => random.between(24, 68),
         10..=14 => random.between(3, 4),
+        15..=17 => 32 * random.between(1, 4),
         _ => random.between(3, 24),
     };
     if most >= 131 && random.one_in(50) {
@@ -72,6 +77,30 @@ pub fn any_volume(random: &mut Random, most: usize) -> Volume {
         return volume(random, Shape::Largest, blocks);
     }
     volume(random, shape, usual.min(most))
+}
+
+/// Makes a consistent volume with files F0, F1 and so on of these sizes, which there must be room
+/// for. Their inodes and content have blocks anywhere; all that is ignored is zero.
+pub fn volume_with_files(random: &mut Random, blocks: usize, sizes: &[u32]) -> Volume {
+    let mut free: Vec<u32> = (3..blocks as u32).collect();
+    random.shuffle(&mut free);
+    let mut take = |count: usize| free.split_off(free.len() - count);
+    let file = |(slot, &size): (usize, &u32)| File {
+        slot,
+        name: format!("F{slot}").into_bytes(),
+        inode: take(1)[0],
+        size,
+        blocks: take((size as usize).div_ceil(BLOCK_SIZE)),
+    };
+    let files: Vec<File> = sizes.iter().enumerate().map(file).collect();
+    let mut image = vec![0; blocks * BLOCK_SIZE];
+    draw(random, &mut image, blocks, &files);
+    Volume {
+        image,
+        blocks,
+        files,
+        gone: Vec::new(),
+    }
 }
 
 /// Bytes of a length that gives so many blocks, filled in one of several ways.

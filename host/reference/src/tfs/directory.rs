@@ -59,13 +59,15 @@ pub(super) fn create_in(
         return Err(Refusal::plain(10));
     }
     let slot = volume.free_slot().ok_or(Refusal::plain(11))?;
-    let mut space = [0; 1 + MOST_CONTENT];
-    let chosen = &mut space[..1 + blocks_for(size)];
-    let mut free = volume.free_blocks();
-    for number in chosen.iter_mut() {
-        *number = free.next().ok_or(Refusal::plain(12))?;
+    let needed = 1 + blocks_for(size);
+    if (volume.free_count() as usize) < needed {
+        return Err(Refusal::plain(12));
     }
-    drop(free);
+    let mut space = [0; 1 + MOST_CONTENT];
+    let chosen = &mut space[..needed];
+    for (number, free) in chosen.iter_mut().zip(volume.free_blocks()) {
+        *number = free;
+    }
 
     let blocks = blocks_mut(image);
     for &number in chosen.iter() {

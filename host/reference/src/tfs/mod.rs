@@ -6,6 +6,7 @@
 mod directory;
 pub(crate) mod known;
 mod layout;
+mod room;
 mod transfer;
 mod volume;
 

@@ -2,8 +2,9 @@
 
 use super::layout::{
     blocks, blocks_for, content_numbers, file_size, is_data_block, map_words, slots, word, words,
-    Block, BlockSet, Name, Slot, DIRECTORY, LARGEST_FILE, MAGIC, SLOTS,
+    Block, BlockSet, Name, Slot, DIRECTORY, LARGEST_FILE, MAGIC, MAP, SLOTS,
 };
+use super::room::ones_below;
 use crate::Refusal;
 
 /// Tells whether a volume is consistent, or gives its first fault.
@@ -103,9 +104,8 @@ impl<'a> Volume<'a> {
 
     /// The number of all free blocks.
     pub(super) fn free_count(&self) -> u32 {
-        map_words(self.blocks)
-            .map(|(word, mask)| (!word & mask).count_ones())
-            .sum()
+        let count = self.blocks.len();
+        count as u32 - ones_below(&self.blocks[MAP], count)
     }
 }
 
