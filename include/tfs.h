@@ -68,6 +68,7 @@ typedef struct tfs_result {
     uint32_t refusal; /* an enum tfs_refusal; 0 is granted */
     uint32_t place;   /* the slot or block at fault (refusals 4 to 7), else 0 */
     uint32_t value;   /* what is granted: an inode number, a count or free bytes; else 0 */
+    uint32_t blocks;  /* of a granted read or write: in how many of the file's content blocks the bytes lie; else 0 */
 } tfs_result;
 
 /* The answer of tfs_list. */
@@ -100,14 +101,17 @@ tfs_result tfs_remove(uint8_t *image, size_t image_length, const uint8_t *name, 
 
 /* Reads the file that has this name now, from the offset on, into the buffer,
  * and gives the count: the buffer's length, or fewer at the file's end, 0 where
- * the offset equals the size. The rest of the buffer stays.
+ * the offset equals the size. The rest of the buffer stays. In `blocks` it
+ * gives in how many of the file's content blocks these bytes lie: 0 for a count
+ * of 0, else 1 to (count + 510) / 512 + 1.
  * Refusals: 8, 13, 15, in this order. */
 tfs_result tfs_read(const uint8_t *image, size_t image_length, const uint8_t *name, size_t name_length,
                     uint32_t offset, uint8_t *buffer, size_t buffer_length);
 
 /* Writes the buffer into the file that has this name now, from the offset on,
  * and gives the count: the buffer's length, or fewer at the file's end, 0 where
- * the offset equals the size. Refusals: 8, 13, 15, in this order. */
+ * the offset equals the size; and `blocks`, as tfs_read does.
+ * Refusals: 8, 13, 15, in this order. */
 tfs_result tfs_write(uint8_t *image, size_t image_length, const uint8_t *name, size_t name_length, uint32_t offset,
                      const uint8_t *buffer, size_t buffer_length);
 

@@ -101,10 +101,10 @@ tfs_written tfs_trace_write(uint8_t *out, size_t out_length, tfs_entry entry, co
 
 /* Replays a trace on the volume: its requests one after another, until the end,
  * or until a record is malformed or a request answers otherwise than expected.
- * Answers differ where the refusals do or, both granted, the results; place and
- * inode number do not count. A request that answered otherwise has had its
- * effect, a malformed record has none. The volume is checked once, before the
- * first record; refused, nothing has changed. */
+ * Answers differ where the refusals do or, both granted, the results; place,
+ * inode number and number of blocks do not count. A request that answered
+ * otherwise has had its effect, a malformed record has none. The volume is
+ * checked once, before the first record; refused, nothing has changed. */
 tfs_replayed tfs_replay(uint8_t *image, size_t image_length, const uint8_t *trace, size_t trace_length);
 
 #ifdef __cplusplus

@@ -1,5 +1,5 @@
-//! Links what is timed beside the proved library: a count in C, and an older build of the library where the environment
-//! variable BEFORE names one by its absolute path.
+//! Links what is timed beside the proved library: a count in C, and where the environment variable BEFORE names an older
+//! build of the library by its absolute path, that build and the present one in the same form.
 use std::env;
 use std::path::{Path, PathBuf};
 use std::process::Command;
@@ -11,7 +11,9 @@ fn main() {
     println!("cargo:rustc-check-cfg=cfg(before)");
     println!("cargo:rerun-if-env-changed=BEFORE");
     if let Some(older) = env::var_os("BEFORE").filter(|name| !name.is_empty()) {
-        link_older(Path::new(&older), &out);
+        let newer = Path::new(env!("CARGO_MANIFEST_DIR")).join("../../target/staticlib/libtfs_c.a");
+        link_build(Path::new(&older), "before", &out);
+        link_build(&newer, "now", &out);
         println!("cargo:rustc-cfg=before");
     }
 }
@@ -26,16 +28,18 @@ fn link_count(out: &Path) {
     println!("cargo:rustc-link-lib=static=room");
 }
 
-/// Gives two requests of an older library other names and hides the rest of it, which the newer one has too.
-fn link_older(library: &Path, out: &Path) {
+/// Links a build under names with a prefix, and hides what else it has. Each of its functions begins at the start of a
+/// page: two builds then do not differ by where the linker happens to put them.
+fn link_build(library: &Path, prefix: &str, out: &Path) {
     println!("cargo:rerun-if-changed={}", library.display());
     let mut command = Command::new("objcopy");
-    for name in ["tfs_free_bytes", "tfs_check"] {
-        command.arg(format!("--redefine-sym={name}=before_{name}"));
-        command.arg(format!("--keep-global-symbol=before_{name}"));
+    command.arg("--set-section-alignment=.text.*=4096");
+    for name in ["tfs_check", "tfs_free_bytes", "tfs_read", "tfs_write"] {
+        command.arg(format!("--redefine-sym={name}={prefix}_{name}"));
+        command.arg(format!("--keep-global-symbol={prefix}_{name}"));
     }
-    run(command.args([library, &out.join("libtfs_before.a")]));
-    println!("cargo:rustc-link-lib=static=tfs_before");
+    run(command.args([library, &out.join(format!("libtfs_{prefix}.a"))]));
+    println!("cargo:rustc-link-lib=static=tfs_{prefix}");
 }
 
 fn run(command: &mut Command) {

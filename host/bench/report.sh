@@ -3,7 +3,7 @@
 #
 #     host/bench/report.sh >docs/BENCHMARKS.md
 #
-# Where BEFORE names an older libtfs_c.a, its free bytes is timed too.
+# Where BEFORE names an older libtfs_c.a, its free bytes, read and write are timed too.
 set -eu
 if [ -n "${BEFORE:-}" ]; then
     BEFORE=$(realpath "$BEFORE")
@@ -32,16 +32,18 @@ Nothing in the tests depends on a time.
   `gcc -O2 -std=c99 -Wall -Wextra -Werror -pedantic`, where each word is a call of libgcc, as there is no `-mpopcnt`.
 TEXT
 if [ -n "${BEFORE:-}" ]; then
-    echo '- *before*: the same request of the older static library that `BEFORE` names, linked into the same process.'
+    echo '- *before*: the same request of the older static library that `BEFORE` names, linked into the same process. Beside it,'
+    echo '  *proved* is a copy of the present one; every function of both begins at the start of a page.'
 fi
 cat <<'TEXT'
 
 All are run in turn in one process, in batches of about 0.1 ms, and the best batch of 2,000 rounds counts (of fewer rounds where
 one operation lasts long). Every request but format checks the whole volume first, so each time has a check in it.
 
-Times less the check are differences of two measurements, and vary most from run to run. Of free bytes they are medians over all
-rounds, on eight volumes at eight places in a page; the reference's check is compiled into each of its requests, so that its
-difference is not its count alone. A dash stands for a ratio with a difference below the clock's noise.
+Times less the check are differences of two measurements, and vary most from run to run. Of free bytes and of reads and writes of
+few bytes they are medians over all rounds, on eight volumes at eight places in a page; the reference's check is compiled into
+each of its requests, so that its difference is not its count alone. A dash stands for a ratio with a difference below the clock's
+noise.
 
 A volume of 2 MiB is full when its 25 slots are used: 25 files of 65,024 bytes have 3,200 of its 4,093 blocks. There, create and
 remove are timed as remove and create. It is half full with 16 such files; solid where their blocks stand one after another, as

@@ -56,6 +56,15 @@ static void done(const char *request, tfs_result r)
     say_done(request, r.refusal, r.place);
 }
 
+/* The answer of a read or a write: the count, and how many of the file's blocks hold those bytes. */
+static void moved(const char *request, tfs_result r)
+{
+    if (r.refusal == 0)
+        printf("%s: count %lu, blocks %lu\n", request, (unsigned long)r.value, (unsigned long)r.blocks);
+    else
+        say_done(request, r.refusal, r.place);
+}
+
 /* A volume of 64 KiB with one file, which is written and read back. */
 static void use_volume(uint8_t *image, size_t length)
 {
@@ -68,6 +77,8 @@ static void use_volume(uint8_t *image, size_t length)
     memset(buffer, '.', sizeof buffer);
     value("read at 990, count", tfs_read(image, length, TEXT("TIMING"), 990, buffer, sizeof buffer));
     printf("buffer: \"%.*s\"\n", (int)sizeof buffer, (const char *)buffer);
+    moved("write at 510", tfs_write(image, length, TEXT("TIMING"), 510, TEXT("on, off")));
+    moved("read at 512", tfs_read(image, length, TEXT("TIMING"), 512, buffer, 5));
     slot = tfs_list(image, length, 0);
     printf("slot 0: %s, %lu bytes\n", (const char *)slot.name, (unsigned long)slot.size);
     value("free bytes", tfs_free_bytes(image, length));

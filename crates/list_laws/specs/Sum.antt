@@ -1,14 +1,14 @@
 -- Sums and counts over the numbers below a bound.
 use mathlib.Core.Path.{_≡_, refl, sym, ap, ap₂, _∙_}
-use mathlib.Core.Logic.{_≢_}
-use mathlib.Core.Bool.{Bool, cond}
+use mathlib.Core.Logic.{_≢_, _↔_}
+use mathlib.Core.Bool.{Bool, not, cond, _&&_}
 use Prim.Native.Nat.{ℕ, zero, suc, _+_, _≤_, _<_}
 use native.Mathlib.Omega.{arith}
 use native.Mathlib.Decide.{ℕ-discrete}
 use lib.Arith.{lt-of-le-ne}
-use lib.Dec.{T, eqb}
+use lib.Dec.{T, T-not, not-T, eqb}
 use Rattle.lists.specs.Lists.{sum, count}
-use Rattle.list_laws.specs.Test.{by-test, cond-yes, cond-no, eqb-of, neqb-of}
+use Rattle.list_laws.specs.Test.{by-test, cond-yes, cond-no, and-of, and-l, and-r, eqb-of, neqb-of, iff-eq}
 
 pub sum-one : (f : ℕ → ℕ) (n i : ℕ) → i < n → f i ≤ sum f n
 unfolding sum
@@ -88,10 +88,31 @@ count-two f n i j k l t u =
     let z : cond (f i) 1 0 + cond (f j) 1 0 ≤ count f n = sum-two (λ m. cond (f m) 1 0) n i j k l in
     rw (cond-yes {X = ℕ} (f i) 1 0 t, cond-yes {X = ℕ} (f j) 1 0 u) at z
 
-pub count-le : (f : ℕ → Bool) (n : ℕ) → count f n ≤ n
-unfolding sum
-count-le f zero = omega arith
-count-le f (suc n) =
-    by-test (f n)
-    (λ t. rw (cond-yes {X = ℕ} (f n) 1 0 t) (omega (arith, count-le f n)))
-    (λ t. rw (cond-no {X = ℕ} (f n) 1 0 t) (omega (arith, count-le f n)))
+-- if p holds below n just at f 0 to f (m - 1), and these are different, it holds at m numbers
+pub count-image : (f : ℕ → ℕ) (m n : ℕ) → ((k : ℕ) → k < m → f k < n) → ((j k : ℕ) → j < m → k < m → f j ≡ f k → j ≡ k) → (p : ℕ → Bool) → ((b : ℕ) → b < n → T (p b) ↔ ((k : ℕ) × (k < m) × (f k ≡ b))) → count p n ≡ m
+count-image f zero n low once p at =
+    sum-cong (λ b. cond (p b) 1 0) (λ _. 0) n (λ b l. cond-no {X = ℕ} (p b) 1 0 (not-T (p b) (λ t. let k = at b l .0 t in omega (arith, k .1)))) ∙ sum-zero n
+count-image f (suc m) n low once p at =
+    let q : ℕ → Bool = λ b. p b && not (eqb (f m) b) in
+    let rest : count q n ≡ m = count-image f m n (λ k l. low k (omega arith)) (λ j k l h. once j k (omega arith) (omega arith)) q (λ b l. (fewer b l, more b l)) in
+    let drop : count p n ≡ count q n + cond {A = ℕ} (p (f m)) 1 0 =
+    sum-drop (λ b. cond (p b) 1 0) (λ b. cond (q b) 1 0) n (f m) (low m (omega arith)) (λ t l d. ap (λ (x : Bool). cond x 1 0) (kept t d)) (cond-no {X = ℕ} (q (f m)) 1 0 gone) in
+    let last : cond {A = ℕ} (p (f m)) 1 0 ≡ 1 = cond-yes {X = ℕ} (p (f m)) 1 0 (at (f m) (low m (omega arith)) .1 (m, omega arith, refl)) in
+    omega arith
+  where
+    fewer : (b : ℕ) → b < n → T (p b && not (eqb (f m) b)) → (k : ℕ) × (k < m) × (f k ≡ b)
+    fewer b l t =
+        let k = at b l .0 (and-l (p b) _ t) in
+        let other : f m ≢ b = λ e. T-not (eqb (f m) b) (and-r (p b) _ t) (eqb-of e) in
+        (k .0, lt-of-le-ne {i = k .0} {k = m} (omega (arith, k .1)) (λ e. other (ap f (sym e) ∙ k .2)), k .2)
+
+    more : (b : ℕ) → b < n → (k : ℕ) × (k < m) × (f k ≡ b) → T (p b && not (eqb (f m) b))
+    more b l k =
+        and-of (p b) _ (at b l .1 (k .0, omega (arith, k .1), k .2))
+        (neqb-of (f m) b (λ e. let same : m ≡ k .0 = once m (k .0) (omega arith) (omega (arith, k .1)) (e ∙ sym (k .2)) in omega (arith, k .1)))
+
+    kept : (t : ℕ) → f m ≢ t → (p t && not (eqb (f m) t)) ≡ p t
+    kept t d = iff-eq (p t && not (eqb (f m) t)) (p t) (λ u. and-l (p t) _ u) (λ u. and-of (p t) _ u (neqb-of (f m) t d))
+
+    gone : T (not (p (f m) && not (eqb (f m) (f m))))
+    gone = not-T (p (f m) && not (eqb (f m) (f m))) (λ t. T-not (eqb (f m) (f m)) (and-r (p (f m)) _ t) (eqb-of {a = f m} {b = f m} refl))

@@ -6,6 +6,7 @@ use tfs::CheckAnswer;
 use tfs::Done;
 use tfs::EntryAnswer;
 use tfs::Fault;
+use tfs::TransferAnswer;
 
 // ---- lines
 
@@ -67,6 +68,16 @@ fn answer(what: &[u8], a: Answer) {
     text(b"\n");
 }
 
+fn transfer(what: &[u8], t: TransferAnswer) {
+    text(what);
+    match t {
+        TransferAnswer::Granted(moved) => number(moved.count),
+        TransferAnswer::Refused(n) => refused(n),
+        TransferAnswer::Inconsistent(f) => fault(f),
+    }
+    text(b"\n");
+}
+
 fn listed(what: &[u8], e: EntryAnswer) {
     text(what);
     match e {
@@ -105,8 +116,8 @@ fn short(image: &mut [u8]) {
 fn short_too(image: &mut [u8]) {
     checked(b"  check: ", tfs::check(image));
     let mut buf = [0u8; 8];
-    answer(b"  read: ", tfs::read(image, b"FILE", 0, &mut buf));
-    answer(b"  write: ", tfs::write(image, b"FILE", 0, b"12345678"));
+    transfer(b"  read: ", tfs::read(image, b"FILE", 0, &mut buf));
+    transfer(b"  write: ", tfs::write(image, b"FILE", 0, b"12345678"));
     let listing = tfs::list(image, 0);
     let entry = listing.entry;
     listed(b"  list: ", entry);

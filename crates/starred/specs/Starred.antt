@@ -17,7 +17,7 @@ use Rattle.romfs_spec.specs.Check.{badFullSize, badVolumeSum, badVolumeName, ov
 use Rattle.romfs_spec.specs.Check as rom
 use Rattle.romfs_spec.specs.Requests.{granted, firstOf, matchFrom, matchIn, isDirectory, findStep, find, Entry, entryAt, entryStep, contentStep, contentLength}
 use Rattle.romfs_spec.specs.Requests as requests
-use Rattle.tfs_spec.specs.Requests.{Answer, done, value, unused, file, refused, Outcome, Store, storeAll, formatStores, format, freeFrom, chosen, placeStores, createStores, createView, stored, create, refuse, Lookup, inSlot, denied, lookup, looked, counted, transferAnswer, readFile, read, writeFile, write, freeAnswer}
+use Rattle.tfs_spec.specs.Requests.{Answer, done, value, transferred, unused, file, refused, Outcome, Store, storeAll, formatStores, format, freeFrom, chosen, placeStores, createStores, createView, stored, create, refuse, Lookup, inSlot, denied, lookup, looked, counted, blocksMet, transferAnswer, readFile, read, writeFile, write, freeAnswer}
 
 -- the names, as bytes
 abbrev PUMP : List ℕ
@@ -30,6 +30,7 @@ TIMING = 0x54 ∷ 0x49 ∷ 0x4D ∷ 0x49 ∷ 0x4E ∷ 0x47 ∷ []
 abbrev pub code : Answer → List ℕ
 code done = 0 ∷ []
 code (value x) = 1 ∷ x ∷ []
+code (transferred c m) = 5 ∷ c ∷ m ∷ []
 code unused = 2 ∷ []
 code (file nm i z) = 3 ∷ i ∷ z ∷ nm
 code (refused num p) = 4 ∷ num ∷ p ∷ []
@@ -102,10 +103,10 @@ expected =
     ∷ (0x00 ∷ 0x00 ∷ 0x00 ∷ 0x03 ∷ 0x54 ∷ 0x49 ∷ 0x4D ∷ 0x49 ∷ 0x4E ∷ 0x47 ∷ zeros 10)
     ∷ (0x00 ∷ 0x00 ∷ 0x03 ∷ 0xE8 ∷ 0x00 ∷ 0x00 ∷ 0x00 ∷ 0x04 ∷ 0x00 ∷ 0x00 ∷ 0x00 ∷ 0x05 ∷ zeros 500)
     ∷ code (value 62464)
-    ∷ code (value 100)
-    ∷ code (value 0)
+    ∷ code (transferred 100 1)
+    ∷ code (transferred 0 0)
     ∷ code (refused 15 0)
-    ∷ code (value 10)
+    ∷ code (transferred 10 1)
     ∷ (0x80 ∷ zeros 511)
     ∷ (0x00 ∷ 0x00 ∷ 0x00 ∷ 0x00 ∷ 0x00 ∷ 0x00 ∷ 0x00 ∷ 0x01 ∷ zeros 504)
     ∷ (1 ∷ [])
@@ -128,7 +129,7 @@ made img = storeAll 512 (formatted img) (createStores 512 (viewN 512 128 (format
 
 -- the definitions that are computed on them: `unfolding computing` opens them all
 computing : Unit {0}
-unfolding least sum zeroAt firstZero upToZero word bitOf withBit part withPart need block setBlock mapBit setBit slot setSlot slotInode slotName slotFree nameFormed slotUsed sameName entry inodeSize inodeNumber inodeBlock labelAllowed nameAllowed inodeAt viewN free used inode name size number slotOf freeSlot freeBlocks badMagic badLabel repeats badSlot badNumber badInode fileClaims claimsTo claims checkView formatStores freeFrom chosen placeStores createStores createView lookup counted transferAnswer formatted made
+unfolding least sum zeroAt firstZero upToZero word bitOf withBit part withPart need block setBlock mapBit setBit slot setSlot slotInode slotName slotFree nameFormed slotUsed sameName entry inodeSize inodeNumber inodeBlock labelAllowed nameAllowed inodeAt viewN free used inode name size number slotOf freeSlot freeBlocks badMagic badLabel repeats badSlot badNumber badInode fileClaims claimsTo claims checkView formatStores freeFrom chosen placeStores createStores createView lookup counted blocksMet transferAnswer formatted made
 computing = tt
 
 -- .. and those that are computed on the romfs image
@@ -161,7 +162,7 @@ module _ {n : ℕ} {img : List ℕ} (g : Image n img) where
 
 -- what read and write answer, by the view
 abbrev transferOf : View → List ℕ → ℕ → ℕ → Answer
-transferOf v nm o len = looked (lookup 512 v nm) refused (λ s. transferAnswer v s o len)
+transferOf v nm o len = looked (lookup 512 v nm) refused (λ s. transferAnswer 512 v s o len)
 
 -- the requests on a volume
 module _ {n : ℕ} {img : List ℕ} (v : Volume n img) where
@@ -181,7 +182,7 @@ module _ {n : ℕ} {img : List ℕ} (v : Volume n img) where
   unfolding read
   read-is nm o k buf e = rw passes (go (lookup 512 (view 512 img) nm) ∙ λ i. transferOf (view-is i) nm o (e i))
     where
-      go : (x : Lookup) → looked x (refuse img buf) (λ s. readFile 512 img s o buf) .answer ≡ looked x refused (λ s. transferAnswer (view 512 img) s o (length buf))
+      go : (x : Lookup) → looked x (refuse img buf) (λ s. readFile 512 img s o buf) .answer ≡ looked x refused (λ s. transferAnswer 512 (view 512 img) s o (length buf))
       go (inSlot s) = refl
       go (denied num) = refl
 
@@ -189,7 +190,7 @@ module _ {n : ℕ} {img : List ℕ} (v : Volume n img) where
   unfolding write
   write-is nm o k buf e = rw passes (go (lookup 512 (view 512 img) nm) ∙ λ i. transferOf (view-is i) nm o (e i))
     where
-      go : (x : Lookup) → looked x (refuse img []) (λ s. writeFile 512 img s o buf) .answer ≡ looked x refused (λ s. transferAnswer (view 512 img) s o (length buf))
+      go : (x : Lookup) → looked x (refuse img []) (λ s. writeFile 512 img s o buf) .answer ≡ looked x refused (λ s. transferAnswer 512 (view 512 img) s o (length buf))
       go (inSlot s) = refl
       go (denied num) = refl
 

@@ -12,6 +12,8 @@ use Rattle.tfs.specs.declared.CheckAnswer.{CheckAnswer}
 use Rattle.tfs.specs.declared.CheckAnswer.the-variants as check
 use Rattle.tfs.specs.declared.Answer.{Answer}
 use Rattle.tfs.specs.declared.Answer.the-variants as answer
+use Rattle.tfs.specs.declared.TransferAnswer.{TransferAnswer}
+use Rattle.tfs.specs.declared.TransferAnswer.the-variants as transfer
 use Rattle.tfs.specs.declared.Done.{Done}
 use Rattle.tfs.specs.declared.Done.the-variants as done
 use Rattle.tfs.specs.declared.EntryAnswer.{EntryAnswer}
@@ -47,6 +49,11 @@ answerTold (answer.Granted x) = rules.value x
 answerTold (answer.Refused num) = rules.refused num 0
 answerTold (answer.Inconsistent f) = faultAnswer f
 
+abbrev pub transferTold : TransferAnswer → rules.Answer
+transferTold (transfer.Granted t) = rules.transferred (t .count) (t .blocks)
+transferTold (transfer.Refused num) = rules.refused num 0
+transferTold (transfer.Inconsistent f) = faultAnswer f
+
 abbrev pub doneTold : Done → rules.Answer
 doneTold done.Granted = rules.done
 doneTold (done.Refused num) = rules.refused num 0
@@ -65,6 +72,7 @@ listingTold l = entryTold (l .entry) (l .name)
 abbrev pub listedName : rules.Answer → List ℕ
 listedName rules.done = zeros 16
 listedName (rules.value x) = zeros 16
+listedName (rules.transferred c m) = zeros 16
 listedName rules.unused = zeros 16
 listedName (rules.file nm i z) = padTo 16 nm
 listedName (rules.refused num p) = zeros 16
@@ -89,6 +97,11 @@ abbrev pub AnswerFits : Answer → Type 0
 AnswerFits (answer.Granted x) = Unit {0}
 AnswerFits (answer.Refused num) = 8 ≤ num
 AnswerFits (answer.Inconsistent f) = FaultFits f
+
+abbrev pub TransferFits : TransferAnswer → Type 0
+TransferFits (transfer.Granted t) = Unit {0}
+TransferFits (transfer.Refused num) = 8 ≤ num
+TransferFits (transfer.Inconsistent f) = FaultFits f
 
 abbrev pub DoneFits : Done → Type 0
 DoneFits done.Granted = Unit {0}

@@ -3,14 +3,18 @@ ghost use mathlib.Core.Path.{_≡_};
 ghost use Rattle.tfs_spec.specs.Check.{broken};
 ghost use Rattle.tfs_check.specs.Told.{RuleFits};
 ghost use Rattle.tfs_steps.specs.Told.{stepTold, removeTold, StepFits};
+ghost use Rattle.tfs_transfer.specs.Told.{movedTold, MovedFits};
 ghost use Rattle.tfs_replay.specs.Told.{replayedTold};
-ghost use Rattle.tfs.specs.Told.{faultTold, FaultFits, answerTold, AnswerFits, doneTold, DoneFits, replayTold, ReplayFits};
+ghost use Rattle.tfs.specs.Told.{faultTold, FaultFits, answerTold, AnswerFits, transferTold, TransferFits, doneTold, DoneFits, replayTold, ReplayFits};
 use crate::Answer;
 use crate::Done;
 use crate::Fault;
 use crate::ReplayAnswer;
+use crate::TransferAnswer;
+use crate::Transferred;
 use tfs_replay::Replayed;
 use tfs_steps::Step;
+use tfs_transfer::Moved;
 
 // The fault of a broken rule.
 pub fn fault_of(rule: u32, place: u32) -> Fault
@@ -34,6 +38,17 @@ pub fn answer_of(step: Step) -> Answer
     match step {
         Step::Granted(x) => Answer::Granted(x),
         Step::Refused(n) => Answer::Refused(n),
+    }
+}
+
+// The answer of a transfer.
+pub fn transfer_of(moved: Moved) -> TransferAnswer
+    requires { ⌜ MovedFits moved ⌝ }
+    ensures { λ r. ⌜ (transferTold r ≡ movedTold moved) × TransferFits r ⌝ }
+{
+    match moved {
+        Moved::Granted { count, blocks } => TransferAnswer::Granted(Transferred { count, blocks }),
+        Moved::Refused(n) => TransferAnswer::Refused(n),
     }
 }
 

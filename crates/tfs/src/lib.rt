@@ -6,11 +6,12 @@ ghost use mathlib.Core.Path.{_≡_};
 ghost use Rattle.tfs_spec.specs.Check.{check};
 ghost use Rattle.tfs_spec.specs.Requests.{format, create, remove, read, write, listAnswer, freeAnswer};
 ghost use Rattle.tfs_spec.specs.Replays.{replay};
-ghost use Rattle.tfs.specs.Told.{checkTold, CheckFits, answerTold, AnswerFits, doneTold, DoneFits, listingTold, listedName, EntryFits, replayTold, ReplayFits};
+ghost use Rattle.tfs.specs.Told.{checkTold, CheckFits, answerTold, AnswerFits, transferTold, TransferFits, doneTold, DoneFits, listingTold, listedName, EntryFits, replayTold, ReplayFits};
 use crate::answers::answer_of;
 use crate::answers::done_of;
 use crate::answers::fault_of;
 use crate::answers::replay_of;
+use crate::answers::transfer_of;
 use crate::look::list_step;
 use tfs_change::create_step;
 use tfs_change::remove_step;
@@ -40,9 +41,22 @@ pub enum CheckAnswer {
     Refused(Fault),
 }
 
-// What create, read, write and free bytes answer: granted with a number, refused by its number, or an inconsistent volume with its fault.
+// What create and free bytes answer: granted with a number, refused by its number, or an inconsistent volume with its fault.
 pub enum Answer {
     Granted(u32),
+    Refused(u32),
+    Inconsistent(Fault),
+}
+
+// What read and write have moved: the count of bytes, and in how many content blocks these lie.
+pub struct Transferred {
+    pub count: u32,
+    pub blocks: u32,
+}
+
+// What read and write answer.
+pub enum TransferAnswer {
+    Granted(Transferred),
     Refused(u32),
     Inconsistent(Fault),
 }
@@ -120,23 +134,23 @@ pub fn remove(image: &mut [u8], name: &[u8]) -> Done
     }
 }
 
-// Reads from the offset on of the file of this name into the buffer, granted with the count; the rest of the buffer stays.
-pub fn read(image: &[u8], name: &[u8], offset: u32, buf: &mut [u8]) -> Answer
-    ensures { λ r. ⌜ (answerTold r ≡ read 512 (now (image .entry)) (now (name .entry)) offset (now (buf .entry)) .answer) × (now (buf .exit) ≡ read 512 (now (image .entry)) (now (name .entry)) offset (now (buf .entry)) .buffer) × AnswerFits r ⌝ }
+// Reads from the offset on of the file of this name into the buffer, granted with the count and the number of content blocks that these bytes lie in; the rest of the buffer stays.
+pub fn read(image: &[u8], name: &[u8], offset: u32, buf: &mut [u8]) -> TransferAnswer
+    ensures { λ r. ⌜ (transferTold r ≡ read 512 (now (image .entry)) (now (name .entry)) offset (now (buf .entry)) .answer) × (now (buf .exit) ≡ read 512 (now (image .entry)) (now (name .entry)) offset (now (buf .entry)) .buffer) × TransferFits r ⌝ }
 {
     match check(image) {
-        CheckAnswer::Refused(f) => Answer::Inconsistent(f),
-        CheckAnswer::Consistent => answer_of(read_step(image, name, offset, buf)),
+        CheckAnswer::Refused(f) => TransferAnswer::Inconsistent(f),
+        CheckAnswer::Consistent => transfer_of(read_step(image, name, offset, buf)),
     }
 }
 
-// Writes the buffer into the file of this name from the offset on, as far as the file reaches; granted with the count.
-pub fn write(image: &mut [u8], name: &[u8], offset: u32, buf: &[u8]) -> Answer
-    ensures { λ r. ⌜ (answerTold r ≡ write 512 (now (image .entry)) (now (name .entry)) offset (now (buf .entry)) .answer) × (now (image .exit) ≡ write 512 (now (image .entry)) (now (name .entry)) offset (now (buf .entry)) .image) × AnswerFits r ⌝ }
+// Writes the buffer into the file of this name from the offset on, as far as the file reaches; granted as read is.
+pub fn write(image: &mut [u8], name: &[u8], offset: u32, buf: &[u8]) -> TransferAnswer
+    ensures { λ r. ⌜ (transferTold r ≡ write 512 (now (image .entry)) (now (name .entry)) offset (now (buf .entry)) .answer) × (now (image .exit) ≡ write 512 (now (image .entry)) (now (name .entry)) offset (now (buf .entry)) .image) × TransferFits r ⌝ }
 {
     match check(image) {
-        CheckAnswer::Refused(f) => Answer::Inconsistent(f),
-        CheckAnswer::Consistent => answer_of(write_step(image, name, offset, buf)),
+        CheckAnswer::Refused(f) => TransferAnswer::Inconsistent(f),
+        CheckAnswer::Consistent => transfer_of(write_step(image, name, offset, buf)),
     }
 }
 

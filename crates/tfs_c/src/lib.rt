@@ -1,20 +1,22 @@
 // The TFS requests for C. The header is tfs.h; a slice passes as a pointer and then a length.
 ghost use mathlib.Core.Path.{_≡_};
 ghost use Rattle.tfs_spec.specs.Requests as rules;
-ghost use Rattle.tfs.specs.Told.{faultAnswer, checkTold, answerTold, doneTold, entryTold, EntryFits};
+ghost use Rattle.tfs.specs.Told.{faultAnswer, checkTold, answerTold, transferTold, doneTold, entryTold, EntryFits};
 ghost use Rattle.tfs_c.specs.Result.{result, resultOf, emptySlot, fileSlot, slotWith, slotOf};
 use tfs::Answer;
 use tfs::CheckAnswer;
 use tfs::Done;
 use tfs::EntryAnswer;
 use tfs::Fault;
+use tfs::TransferAnswer;
 
-// The refusal's number, 0 for granted; its place; the value granted.
+// The refusal's number, 0 for granted; its place; the value granted; of a transfer the number of content blocks.
 #[repr(C)]
 pub struct TfsResult {
     pub refusal: u32,
     pub place: u32,
     pub value: u32,
+    pub blocks: u32,
 }
 
 // What list gives of a slot: the refusal and its place; 1 for a file; its inode number, size and name.
@@ -29,23 +31,25 @@ pub struct TfsSlot {
     pub name: [u8; 16],
 }
 
-fn granted(value: u32) -> TfsResult
-    ensures { λ r. ⌜ r ≡ result 0 0 value ⌝ }
+fn granted(value: u32, blocks: u32) -> TfsResult
+    ensures { λ r. ⌜ r ≡ result 0 0 value blocks ⌝ }
 {
     TfsResult {
         refusal: 0,
         place: 0,
         value: value,
+        blocks: blocks,
     }
 }
 
 fn refused(number: u32, place: u32) -> TfsResult
-    ensures { λ r. ⌜ r ≡ result number place 0 ⌝ }
+    ensures { λ r. ⌜ r ≡ result number place 0 0 ⌝ }
 {
     TfsResult {
         refusal: number,
         place: place,
         value: 0,
+        blocks: 0,
     }
 }
 
@@ -63,9 +67,19 @@ fn of_answer(a: Answer) -> TfsResult
     ensures { λ r. ⌜ r ≡ resultOf (answerTold a) ⌝ }
 {
     match a {
-        Answer::Granted(x) => granted(x),
+        Answer::Granted(x) => granted(x, 0),
         Answer::Refused(n) => refused(n, 0),
         Answer::Inconsistent(f) => of_fault(f),
+    }
+}
+
+fn of_transfer(t: TransferAnswer) -> TfsResult
+    ensures { λ r. ⌜ r ≡ resultOf (transferTold t) ⌝ }
+{
+    match t {
+        TransferAnswer::Granted(moved) => granted(moved.count, moved.blocks),
+        TransferAnswer::Refused(n) => refused(n, 0),
+        TransferAnswer::Inconsistent(f) => of_fault(f),
     }
 }
 
@@ -73,7 +87,7 @@ fn of_done(d: Done) -> TfsResult
     ensures { λ r. ⌜ r ≡ resultOf (doneTold d) ⌝ }
 {
     match d {
-        Done::Granted => granted(0),
+        Done::Granted => granted(0, 0),
         Done::Refused(n) => refused(n, 0),
         Done::Inconsistent(f) => of_fault(f),
     }
@@ -83,7 +97,7 @@ fn of_check(c: CheckAnswer) -> TfsResult
     ensures { λ r. ⌜ r ≡ resultOf (rules.checked (checkTold c) rules.refused rules.done) ⌝ }
 {
     match c {
-        CheckAnswer::Consistent => granted(0),
+        CheckAnswer::Consistent => granted(0, 0),
         CheckAnswer::Refused(f) => of_fault(f),
     }
 }
@@ -120,20 +134,20 @@ pub extern "C" fn tfs_remove(image: &mut [u8], name: &[u8]) -> TfsResult
     of_done(tfs::remove(image, name))
 }
 
-// Reads from the offset on of the file of this name; the value is the count, the rest of the buffer stays.
+// Reads from the offset on of the file of this name; the value is the count, and `blocks` in how many content blocks these bytes lie; the rest of the buffer stays.
 #[no_mangle]
 pub extern "C" fn tfs_read(image: &[u8], name: &[u8], offset: u32, buf: &mut [u8]) -> TfsResult
     ensures { λ r. ⌜ (r ≡ resultOf (rules.read 512 (now (image .entry)) (now (name .entry)) offset (now (buf .entry)) .answer)) × (now (buf .exit) ≡ rules.read 512 (now (image .entry)) (now (name .entry)) offset (now (buf .entry)) .buffer) ⌝ }
 {
-    of_answer(tfs::read(image, name, offset, buf))
+    of_transfer(tfs::read(image, name, offset, buf))
 }
 
-// Writes into the file of this name from the offset on, as far as it reaches; the value is the count.
+// Writes into the file of this name from the offset on, as far as it reaches; value and `blocks` as of a read.
 #[no_mangle]
 pub extern "C" fn tfs_write(image: &mut [u8], name: &[u8], offset: u32, buf: &[u8]) -> TfsResult
     ensures { λ r. ⌜ (r ≡ resultOf (rules.write 512 (now (image .entry)) (now (name .entry)) offset (now (buf .entry)) .answer)) × (now (image .exit) ≡ rules.write 512 (now (image .entry)) (now (name .entry)) offset (now (buf .entry)) .image) ⌝ }
 {
-    of_answer(tfs::write(image, name, offset, buf))
+    of_transfer(tfs::write(image, name, offset, buf))
 }
 
 // The value is 512 times the free blocks.

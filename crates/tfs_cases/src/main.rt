@@ -13,6 +13,7 @@ use tfs::Done;
 use tfs::EntryAnswer;
 use tfs::Fault;
 use tfs::ReplayAnswer;
+use tfs::TransferAnswer;
 
 // ---- what the requests give
 
@@ -44,6 +45,14 @@ fn of_answer(a: Answer) -> Outcome {
         Answer::Granted(value) => one(value),
         Answer::Refused(n) => refused(n, 0),
         Answer::Inconsistent(f) => of_fault(f),
+    }
+}
+
+fn of_transfer(t: TransferAnswer) -> Outcome {
+    match t {
+        TransferAnswer::Granted(moved) => granted(2, [moved.count, moved.blocks, 0, 0, 0, 0]),
+        TransferAnswer::Refused(n) => refused(n, 0),
+        TransferAnswer::Inconsistent(f) => of_fault(f),
     }
 }
 
@@ -85,8 +94,8 @@ fn request(given: Given, name: &[u8], buf: &mut [u8], image: &mut [u8]) -> Outco
         2 => of_done(tfs::format(image, name)),
         3 => of_answer(tfs::create(image, name, number)),
         4 => of_done(tfs::remove(image, name)),
-        5 => of_answer(tfs::read(image, name, number, buf)),
-        6 => of_answer(tfs::write(image, name, number, buf)),
+        5 => of_transfer(tfs::read(image, name, number, buf)),
+        6 => of_transfer(tfs::write(image, name, number, buf)),
         7 => listed(image, number),
         8 => of_answer(tfs::free_bytes(image)),
         9 => of_replay(tfs::replay(image, buf)),

@@ -1,8 +1,9 @@
-// The numbers of the layout, and the blocks of an image as its parts.
+// The numbers of the layout, the blocks of an image as its parts, and in how many blocks bytes of a file lie.
 ghost use mathlib.Core.Path.{_≡_};
 ghost use Prim.Native.Nat.{_+_, _*_, _≤_};
 ghost use lib.ListN.{length};
 ghost use Rattle.tfs_spec.specs.Layout.{blocks, block, view};
+ghost use Rattle.tfs_spec.specs.Requests.{blocksMet};
 
 // The bytes of a block.
 pub const BLOCK: usize = 512;
@@ -42,6 +43,18 @@ pub fn blocks(image: &[u8]) -> usize
         return whole;
     }
     MAX_BLOCKS
+}
+
+// In how many blocks of a file so many bytes from the offset on lie.
+pub fn blocks_met(offset: u32, count: u32) -> u32
+    ensures { λ r. ⌜ r ≡ blocksMet 512 offset count ⌝ }
+{
+    if count == 0 {
+        return 0;
+    }
+    let start = offset as usize;
+    let last = start + count as usize - 1;
+    (last / BLOCK - start / BLOCK + 1) as u32
 }
 
 // Block b.

@@ -6,13 +6,14 @@ use Prim.Native.Nat.{ℕ, _≤_}
 use native.Mathlib.Omega.{arith}
 use Rattle.tfs_spec.specs.Layout.{View}
 use Rattle.tfs_spec.specs.Consistent.{Broken, short, unmagical, unlabelled, malformed, repeated, oversized, misnumbered, twice, unmarked, stray}
-use Rattle.tfs_spec.specs.Requests.{Answer, done, value, unused, file, refused}
+use Rattle.tfs_spec.specs.Requests.{Answer, done, value, transferred, unused, file, refused}
 use Rattle.tfs_spec.specs.Answers as rule
 use Rattle.tfs_spec.specs.Answers.{FindRule, CreateRule, TransferRule, ListRule}
 
 abbrev pub Numbered : Answer → Type 0
 Numbered done = Unit {0}
 Numbered (value x) = Unit {0}
+Numbered (transferred c m) = Unit {0}
 Numbered unused = Unit {0}
 Numbered (file nm i z) = Unit {0}
 Numbered (refused num p) = (1 ≤ num) × (num ≤ 15) × (8 ≤ num → p ≡ 0)
@@ -21,6 +22,7 @@ Numbered (refused num p) = (1 ≤ num) × (num ≤ 15) × (8 ≤ num → p ≡ 0
 abbrev pub Other : Answer → Type 0
 Other done = Unit {0}
 Other (value x) = Unit {0}
+Other (transferred c m) = Unit {0}
 Other unused = Unit {0}
 Other (file nm i z) = Unit {0}
 Other (refused num p) = ((1 ≤ num) × (num ≤ 15) × (8 ≤ num → p ≡ 0)) × (num ≢ 14)
@@ -28,6 +30,7 @@ Other (refused num p) = ((1 ≤ num) × (num ≤ 15) × (8 ≤ num → p ≡ 0))
 pub other-numbered : (a : Answer) → Other a → Numbered a
 other-numbered done w = tt
 other-numbered (value x) w = tt
+other-numbered (transferred c m) w = tt
 other-numbered unused w = tt
 other-numbered (file nm i z) w = tt
 other-numbered (refused num p) w = w .0
@@ -65,9 +68,9 @@ create-other B v nm z _ (rule.full r k f none) = refusal 11 (omega arith) (omega
 create-other B v nm z _ (rule.cramped s r k f w h) = refusal 12 (omega arith) (omega arith) (λ e. omega arith)
 create-other B v nm z _ (rule.created s h r k f w room low) = tt
 
-pub transfer-other : (v : View) (o len s : ℕ) (a : Answer) → TransferRule v o len s a → Other a
-transfer-other v o len s _ (rule.beyond l) = refusal 15 (omega arith) (omega arith) (λ e. omega arith)
-transfer-other v o len s _ (rule.moved l) = tt
+pub transfer-other : (B : ℕ) (v : View) (o len s : ℕ) (a : Answer) → TransferRule B v o len s a → Other a
+transfer-other B v o len s _ (rule.beyond l) = refusal 15 (omega arith) (omega arith) (λ e. omega arith)
+transfer-other B v o len s _ (rule.moved c m l e w) = tt
 
 pub list-numbered : (B : ℕ) (v : View) (s : ℕ) (a : Answer) → ListRule B v s a → Numbered a
 list-numbered B v s _ (rule.outside l) = (omega arith, omega arith, λ _. refl)

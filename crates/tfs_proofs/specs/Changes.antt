@@ -77,7 +77,7 @@ module _ (B : ℕ) (img : List ℕ) (passed : Passed B img) where
   unfolding transferView slotFor request
   write-granted nm o bs g =
       let t : T (granted (transferView B (view B img) nm o (length bs))) = subst (λ (a : Answer). T (granted a)) (request-answer B img passed (wr nm o bs)) g in
-      by-lookup B (view B img) nm (λ (x : Lookup). T (granted (looked x refused (λ s. transferAnswer (view B img) s o (length bs)))) → slotGiven B x < slots B) (λ _ g. absurd g) (λ _ _ g. absurd g) (λ _ l _. l) t
+      by-lookup B (view B img) nm (λ (x : Lookup). T (granted (looked x refused (λ s. transferAnswer B (view B img) s o (length bs)))) → slotGiven B x < slots B) (λ _ g. absurd g) (λ _ _ g. absurd g) (λ _ l _. l) t
 
 -- "A refused request changes no byte of the image"
 refused-core : (f : Verdict) (img new : List ℕ) (a : Answer) → T (not (granted (checked f (refuse img []) (record { answer = a; image = cond (granted a) new img; buffer = [] }) .answer))) → checked f (refuse img []) (record { answer = a; image = cond (granted a) new img; buffer = [] }) .image ≡ img

@@ -3,7 +3,7 @@
 use mathlib.Core.Path.{_≡_, refl, sym, ap, _∙_, subst}
 use mathlib.Core.Logic.{_≢_, _↔_, ⊎-elim}
 use mathlib.Core.Bool.{Bool, true, false, not, cond}
-use Prim.Native.Nat.{ℕ, _+_, _-_, _*_, _≤_, _<_}
+use Prim.Native.Nat.{ℕ, _+_, _-_, _*_, _≤_, _<_, min}
 use mathlib.Core.List.{List, []}
 use native.Mathlib.Omega.{arith}
 use native.Mathlib.Decide.{decLt}
@@ -16,14 +16,15 @@ use Rattle.lists.specs.Lists.{least, zeroAt, firstZero}
 use Rattle.list_laws.specs.Least.{least-hit, least-none, least-below, least-all}
 use Rattle.tfs_spec.specs.Layout.{BlockSize, slots, maxSize, need, mapBit, slot, labelAllowed, nameAllowed, View, view, free, used, name, size, slotOf, freeSlot, freeBlocks}
 use Rattle.tfs_spec.specs.Check.{consistent, check, tooShort}
-use Rattle.tfs_spec.specs.Consistent.{Sound, Consistent}
+use Rattle.tfs_spec.specs.Consistent.{File, Sound, Consistent}
 use Rattle.tfs_facts.specs.Claims.{count-some}
 use Rattle.tfs_facts.specs.CheckMeans.{check-means, same-means}
 use Rattle.tfs_facts.specs.Slots.{used-short, used-named, name-whole}
 use Rattle.tfs_facts.specs.Room.{free-cursor}
-use Rattle.tfs_spec.specs.Requests.{Request, changes, checks, reads, lists, counts, creates, removes, writes, perform, reply, checkAnswer, freeAnswer, Answer, done, value, unused, file, refused, granted, Outcome, refuse, Lookup, lookup, looked, freeFrom, chosen, createView, create, removeView, remove, counted, transferAnswer, read, write, listView, listAnswer, format}
+use Rattle.tfs_spec.specs.Requests.{Request, changes, checks, reads, lists, counts, creates, removes, writes, perform, reply, checkAnswer, freeAnswer, Answer, done, value, transferred, unused, file, refused, granted, Outcome, refuse, Lookup, lookup, looked, freeFrom, chosen, createView, create, removeView, remove, counted, transferAnswer, read, write, listView, listAnswer, format, blocksMet}
 use Rattle.tfs_spec.specs.Answers.{LabelRule, NameRule, Stands, Fresh, Vacant, LowestBlock, FindRule, misnamed, absent, found, CreateRule, unnamed, oversized, standing, full, cramped, created, TransferRule, beyond, moved, ListRule, outside, vacant, holds, FormatRule, short, unlabelled, formatted, Rule}
 use Rattle.tfs_facts.specs.Names.{slot-hit, slot-miss, slot-is, free-hit}
+use Rattle.tfs_proofs.specs.Meets.{meets}
 use Rattle.tfs_proofs.specs.Changes.{create-is, remove-is}
 use Rattle.tfs_facts.specs.Lookups.{lookup-misnamed, lookup-absent, lookup-there, by-lookup}
 use Rattle.tfs_proofs.specs.Transfers.{transferView, read-answer, write-answer}
@@ -121,11 +122,11 @@ past-name : (nm : List ℕ) → NameRule nm → (x : Answer) → cond (not (name
 past-name nm r x = cond-no (not (nameAllowed nm)) (refused 8 0) x (yes-yes (nameAllowed nm) (name-allowed nm .1 r))
 
 -- remove, read and write: the lookup, then a step whose own table holds of its answer and of no other
-module _ (B : ℕ) (v : View) (ok : Sound B v) (nm : List ℕ) (own : ℕ → Answer → Type 0) (step : ℕ → Answer) (holds : (s : ℕ) → own s (step s)) (only : (s : ℕ) (a : Answer) → own s a → step s ≡ a) where
+module _ (B : ℕ) (v : View) (ok : Sound B v) (nm : List ℕ) (own : ℕ → Answer → Type 0) (step : ℕ → Answer) (holds : (s : ℕ) → File B v s → own s (step s)) (only : (s : ℕ) (a : Answer) → File B v s → own s a → step s ≡ a) where
   find-holds : FindRule B v nm own (looked (lookup B v nm) refused step)
   find-holds =
       by-lookup B v nm (λ (x : Lookup). FindRule B v nm own (looked x refused step)) (λ t. misnamed (λ r. T-not (nameAllowed nm) t (name-allowed nm .1 r))) (λ t l. absent (name-allowed nm .0 t) (stands-miss B v nm l))
-      (λ t l. found (slotOf B v nm) (step (slotOf B v nm)) (name-allowed nm .0 t) (stands-hit B v nm l) (holds (slotOf B v nm)))
+      (λ t l. found (slotOf B v nm) (step (slotOf B v nm)) (name-allowed nm .0 t) (stands-hit B v nm l) (holds (slotOf B v nm) (stands-hit B v nm l .file)))
 
   find-only : (a : Answer) → FindRule B v nm own a → looked (lookup B v nm) refused step ≡ a
   find-only _ (misnamed h) =
@@ -135,7 +136,7 @@ module _ (B : ℕ) (v : View) (ok : Sound B v) (nm : List ℕ) (own : ℕ → An
   find-only _ (found s a r st w) =
       ap (λ (x : Lookup). looked x refused step) (lookup-there B v nm (name-allowed nm .1 r) (stands-low B v nm ok s st))
       ∙ ap step (stands-at B v nm ok s st)
-      ∙ only s a w
+      ∙ only s a (st .file) w
 
   find-rule : (a : Answer) → (looked (lookup B v nm) refused step ≡ a) ↔ FindRule B v nm own a
   find-rule a = ((λ e. subst (FindRule B v nm own) e find-holds), find-only a)
@@ -205,16 +206,26 @@ module _ (B : ℕ) (v : View) (ok : Sound B v) (nm : List ℕ) (z : ℕ) where
   create-rule : (a : Answer) → (createView B v nm z ≡ a) ↔ CreateRule B v nm z a
   create-rule a = ((λ e. subst (CreateRule B v nm z) e create-holds), create-only a)
 
-module _ (v : View) (o len s : ℕ) where
-  transfer-holds : TransferRule v o len s (transferAnswer v s o len)
+module _ (B : ℕ) (pos : 0 < B) (v : View) (ok : Sound B v) (o len s : ℕ) (f : File B v s) where
+  -- so many bytes lie in the file
+  fits : (c : ℕ) → o ≤ size v s → c ≡ min len (size v s - o) → o + c ≤ size v s
+  fits c l e = omega arith
+
+  transfer-holds : TransferRule B v o len s (transferAnswer B v s o len)
   unfolding transferAnswer counted
   transfer-holds =
-      by-choice (ltb (size v s) o) _ _ (TransferRule v o len s) (λ u. beyond (ltb→lt (size v s) o u)) (λ u. moved (nltb→le (size v s) o u))
+      by-choice (ltb (size v s) o) _ _ (TransferRule B v o len s) (λ u. beyond (ltb→lt (size v s) o u))
+      (λ u.
+      let l : o ≤ size v s = nltb→le (size v s) o u in
+      moved _ _ l refl (meets B pos v ok s o (min len (size v s - o)) f (fits (min len (size v s - o)) l refl)))
 
-  transfer-only : (a : Answer) → TransferRule v o len s a → transferAnswer v s o len ≡ a
+  transfer-only : (a : Answer) → TransferRule B v o len s a → transferAnswer B v s o len ≡ a
   unfolding transferAnswer counted
   transfer-only _ (beyond l) = cond-yes (ltb (size v s) o) (refused 15 0) _ (lt→ltb (size v s) o l)
-  transfer-only _ (moved l) = cond-no (ltb (size v s) o) (refused 15 0) _ (le→nltb (size v s) o l)
+  transfer-only _ (moved c m l e w) =
+      cond-no (ltb (size v s) o) (refused 15 0) _ (le→nltb (size v s) o l)
+      ∙ ap (λ (n : ℕ). transferred n (blocksMet B o n)) (sym e)
+      ∙ ap (transferred c) (sym (meets B pos v ok s o c f (fits c l e) .distinct) ∙ w .distinct)
 
 module _ (B : ℕ) (v : View) (s : ℕ) where
   list-holds : ListRule B v s (listView B v s)
@@ -273,10 +284,13 @@ module _ (B : ℕ) (sz : BlockSize B) (img : List ℕ) (ok : Consistent B img) w
   passed : check B img ≡ consistent
   passed = check-means B sz img .1 ok
 
-  transfer-rule : (nm : List ℕ) (o len : ℕ) (a : Answer) → (transferView B w nm o len ≡ a) ↔ FindRule B w nm (TransferRule w o len) a
+  pos : 0 < B
+  pos = omega (arith, sz .large)
+
+  transfer-rule : (nm : List ℕ) (o len : ℕ) (a : Answer) → (transferView B w nm o len ≡ a) ↔ FindRule B w nm (TransferRule B w o len) a
   unfolding transferView
   transfer-rule nm o len =
-      find-rule B w (ok .sound) nm (TransferRule w o len) (λ s. transferAnswer w s o len) (transfer-holds w o len) (λ s a r. transfer-only w o len s a r)
+      find-rule B w (ok .sound) nm (TransferRule B w o len) (λ s. transferAnswer B w s o len) (λ s f. transfer-holds B pos w (ok .sound) o len s f) (λ s a f r. transfer-only B pos w (ok .sound) o len s f a r)
 
   -- an answer is given exactly in its case of the request's table
   pub rule-reply : (r : Request) (a : Answer) → (reply B img r .answer ≡ a) ↔ Rule B (view B img) r a
@@ -284,7 +298,7 @@ module _ (B : ℕ) (sz : BlockSize B) (img : List ℕ) (ok : Consistent B img) w
   rule-reply (changes (creates nm z)) a =
       iff-at (create B img nm z .answer) (createView B w nm z) a _ (ap (λ (o : Outcome). o .answer) (create-is B img passed nm z)) (create-rule B w (ok .sound) nm z a)
   rule-reply (changes (removes nm)) a =
-      iff-at (remove B img nm .answer) (removeView B w nm) a _ (ap (λ (o : Outcome). o .answer) (remove-is B img passed nm)) (find-rule B w (ok .sound) nm (λ s b. done ≡ b) (λ s. done) (λ s. refl) (λ s b e. e) a)
+      iff-at (remove B img nm .answer) (removeView B w nm) a _ (ap (λ (o : Outcome). o .answer) (remove-is B img passed nm)) (find-rule B w (ok .sound) nm (λ s b. done ≡ b) (λ s. done) (λ s _. refl) (λ s b _ e. e) a)
   rule-reply (changes (writes nm o bs)) a =
       iff-at (write B img nm o bs .answer) (transferView B w nm o (length bs)) a _ (write-answer B img nm o bs passed) (transfer-rule nm o (length bs) a)
   rule-reply checks a = iff-at (checkAnswer B img) done a _ (rw passed) ((λ e. e), λ e. e)

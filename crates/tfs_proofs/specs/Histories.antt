@@ -159,9 +159,9 @@ module _ (B : ℕ) (sz : BlockSize B) where
   refuses : (img : List ℕ) → Consistent B img → (nm : List ℕ) → NameRule nm → contents B img nm ≡ none → (o : ℕ) (buf : List ℕ) → (read B img nm o buf ≡ refuse img buf 13 0) × (write B img nm o buf ≡ refuse img [] 13 0)
   unfolding perform
   refuses img ok nm named e o buf =
-      let a : write B img nm o buf .answer ≡ refused 13 0 = write-by B sz img ok nm named o buf ∙ ap (λ (c : Option (List ℕ)). transferOn c o (length buf)) e in
+      let a : write B img nm o buf .answer ≡ refused 13 0 = write-by B sz img ok nm named o buf ∙ ap (λ (c : Option (List ℕ)). transferOn B c o (length buf)) e in
       let k = keeps B img (changes (writes nm o buf)) (subst (λ (x : Answer). T (not (granted x))) (sym a) tt) in
-      (read-by B sz img ok nm named o buf ∙ ap (λ (c : Option (List ℕ)). readBy c img o buf) e, λ i. record { answer = a i; image = k .0 i; buffer = k .1 i })
+      (read-by B sz img ok nm named o buf ∙ ap (λ (c : Option (List ℕ)). readBy B c img o buf) e, λ i. record { answer = a i; image = k .0 i; buffer = k .1 i })
 
 -- ---- after the end of a name, and after a granted create
 module _ (B : ℕ) (sz : BlockSize B) (img : List ℕ) (nm : List ℕ) where
@@ -181,7 +181,7 @@ module _ (B : ℕ) (sz : BlockSize B) (img : List ℕ) (nm : List ℕ) where
       let w = over-with x ends in
       refuses B sz (afterAll B (operate B img x .image) xs) (all-consistent B sz xs (operate B img x .image) (w .0)) nm named (none-after B sz nm xs (operate B img x .image) (w .1) away)
 
-  born : (z : ℕ) → T (granted (create B img nm z .answer)) → (xs : List Operation) → Never B (EndsName B nm) (create B img nm z .image) xs → (o : ℕ) (buf : List ℕ) → read B (afterAll B (create B img nm z .image) xs) nm o buf ≡ readBy (some (putByAll B nm (create B img nm z .image) xs (zeros z))) (afterAll B (create B img nm z .image) xs) o buf
+  born : (z : ℕ) → T (granted (create B img nm z .answer)) → (xs : List Operation) → Never B (EndsName B nm) (create B img nm z .image) xs → (o : ℕ) (buf : List ℕ) → read B (afterAll B (create B img nm z .image) xs) nm o buf ≡ readBy B (some (putByAll B nm (create B img nm z .image) xs (zeros z))) (afterAll B (create B img nm z .image) xs) o buf
   unfolding perform
   born z g xs stays o buf =
       let ok : Consistent B img = granted-consistent B sz img (creates nm z) g in
@@ -190,7 +190,7 @@ module _ (B : ℕ) (sz : BlockSize B) (img : List ℕ) (nm : List ℕ) where
       some-after B sz nm xs (create B img nm z .image) (zeros z) (right-after (creates nm z) nm refl (name-refl nm) g) stays
       in
       read-by B sz end (all-consistent B sz xs (create B img nm z .image) (stays-consistent B sz img ok (creates nm z))) nm (name-allowed nm .0 (create-granted B img (check-means B sz img .1 ok) nm z g .named)) o buf
-      ∙ ap (λ (c : Option (List ℕ)). readBy c end o buf) e
+      ∙ ap (λ (c : Option (List ℕ)). readBy B c end o buf) e
 
 pub history-law : (B : ℕ) → BlockSize B → (img : List ℕ) → HistoryLaws B img
 history-law B sz img =
@@ -198,7 +198,7 @@ history-law B sz img =
       consistent = λ ok xs. all-consistent B sz xs img ok;
       stands = λ xs nm. all-stands B sz nm xs img;
       reads = λ xs ok nm named o buf.
-          (read-by B sz (afterAll B img xs) ok nm named o buf ∙ ap (λ (c : Option (List ℕ)). readBy c (afterAll B img xs) o buf) (all-stands B sz nm xs img));
+          (read-by B sz (afterAll B img xs) ok nm named o buf ∙ ap (λ (c : Option (List ℕ)). readBy B c (afterAll B img xs) o buf) (all-stands B sz nm xs img));
       ended = gone B sz img;
       created = born B sz img;
     }

@@ -16,7 +16,7 @@ use Rattle.list_laws.specs.Word.{word-cong}
 use Rattle.list_laws.specs.Part.{part-long, getD-part, part-ext}
 use Rattle.tfs_spec.specs.Layout.{BlockSize, slots, numbers, maxSize, need, blocks, block, slot, slotInode, slotUsed, inRange, sameName, mapBit, magic, volumeName, nameAllowed, inodeSize, inodeNumber, View, view, viewN, inodeAt, free, used, inode, name, size, number, slotOf, freeSlot, place, freeBlocks}
 use Rattle.tfs_spec.specs.Check.{Verdict, consistent, broken, found, tooShort, badMagic, badLabel, repeats, badSlot, badNumber, badInode, fileClaims, claimsTo, claims, claimedTwice, badBit, checkView, check, times}
-use Rattle.tfs_spec.specs.Requests.{Answer, value, refused, unused, file, granted, checked, Outcome, readBuffer, Lookup, inSlot, denied, lookup, looked, freeFrom, chosen, createView, create, removeView, remove, counted, transferAnswer, read, write, listView, listAnswer, freeAnswer, refuse}
+use Rattle.tfs_spec.specs.Requests.{Answer, value, transferred, refused, unused, file, granted, checked, Outcome, readBuffer, Lookup, inSlot, denied, lookup, looked, freeFrom, chosen, createView, create, removeView, remove, counted, transferAnswer, read, write, listView, listAnswer, freeAnswer, refuse, blocksMet}
 use Rattle.tfs_facts.specs.Views.{view-n, view-head, view-map}
 use Rattle.tfs_spec.specs.Consistent.{Inside, Sound}
 use Rattle.tfs_spec.specs.Effects.{SameRead}
@@ -168,7 +168,7 @@ module _ (B : ℕ) (v w : View) (al : Alike B v w) where
   transfer-alike : (nm : List ℕ) (o len : ℕ) → transferView B v nm o len ≡ transferView B w nm o len
   unfolding transferView transferAnswer counted
   transfer-alike nm o len = λ i.
-      looked (lookup-alike nm i) refused (λ s. cond (ltb (size-alike s i) o) (refused 15 0) (value (min len (size-alike s i - o))))
+      looked (lookup-alike nm i) refused (λ s. cond (ltb (size-alike s i) o) (refused 15 0) (transferred (min len (size-alike s i - o)) (blocksMet B o (min len (size-alike s i - o)))))
 
   -- an answer that looks at a slot looks at one of the slots
   at-slot : (s : ℕ) (x y : ℕ → Answer) (else : Answer) → ((t : ℕ) → t < slots B → x t ≡ y t) → cond (not (ltb s (slots B))) else (x s) ≡ cond (not (ltb s (slots B))) else (y s)

@@ -1,4 +1,5 @@
 pub mod Content
+pub mod Meets
 pub mod Writes
 pub mod Places
 pub mod Transfers

@@ -21,6 +21,7 @@ use Rattle.tfs_proofs.specs.Others.{stands, stands-not}
 use Rattle.tfs_proofs.specs.Changes.{changed, stays-consistent}
 use Rattle.tfs_proofs.specs.Formats.{format-refused, format-grants, format-consistent, format-empty, format-past, format-length, format-head, format-map, format-directory}
 use Rattle.tfs_proofs.specs.Reads.{transfer-law, covers}
+use Rattle.tfs_proofs.specs.Meets.{blocks-met-law}
 use Rattle.tfs_proofs.specs.Grants.{stands-at, fresh-high, label-allowed, name-allowed, format-rule, rule-reply}
 use Rattle.tfs_proofs.specs.Replies.{told-done, told-broken, granted-or-refused, faulty, fault-reply, numbered, list-only, keeps, kept, ignored-all, tail-kept-by, tail-unread-by}
 use Rattle.tfs_proofs.specs.IgnoredSteps.{same-after-all, bytes-after-all}
@@ -133,6 +134,7 @@ statements =
         others = counted.others;
       };
       transfer-laws = transfer-law;
+      blocks-met-laws = blocks-met-law;
       history-laws = history-law;
       inode-laws = inode-law;
       slot-laws = slot-law;

@@ -1,7 +1,7 @@
 -- What read and write come to, by what stands under their name and nothing else; and what a write covers.
 use mathlib.Core.Path.{_≡_, refl, sym, ap, subst, _∙_}
 use mathlib.Core.Logic.{_↔_}
-use mathlib.Core.Bool.{not, cond}
+use mathlib.Core.Bool.{Bool, true, false, not, cond}
 use Prim.Native.Nat.{ℕ, zero, suc, _+_, _-_, _≤_, _<_, min}
 use mathlib.Core.List.{List, [], _∷_, _++_}
 use mathlib.Core.Option.{Option, some}
@@ -18,10 +18,11 @@ use Rattle.tfs_spec.specs.Consistent.{Consistent}
 use Rattle.tfs_spec.specs.Answers.{NameRule}
 use Rattle.tfs_spec.specs.Effects.{transferOn, readOn, readBy, TransferLaws}
 use Rattle.tfs_spec.specs.Laws.{Write, request, coversAt}
-use Rattle.tfs_spec.specs.Requests.{countOf, Answer, done, value, unused, file, refused, granted, Outcome, refuse, checked, Lookup, lookup, looked, counted, transferAnswer, readBuffer, readFile, readStep, read, writeFile, writeStep, write}
+use Rattle.tfs_spec.specs.Requests.{countOf, Answer, transferred, refused, granted, Outcome, refuse, checked, Lookup, lookup, looked, counted, blocksMet, transferAnswer, readBuffer, readFile, readStep, read, writeFile, writeStep, write}
 use Rattle.tfs_facts.specs.CheckMeans.{check-means}
 use Rattle.tfs_facts.specs.Lookups.{by-lookup, lookup-misnamed}
 use Rattle.tfs_proofs.specs.Content.{length-content}
+use Rattle.tfs_proofs.specs.Meets.{meets}
 use Rattle.tfs_proofs.specs.Others.{stands, stands-not}
 use Rattle.tfs_proofs.specs.Transfers.{transferView, filled, read-as, write-answer}
 use Rattle.tfs_proofs.specs.WriteLists.{take-min}
@@ -87,19 +88,19 @@ module _ (B : ℕ) (img : List ℕ) (s o : ℕ) (buf : List ℕ) where
   unfolding readBuffer counted
   nothing l = let e : c ≡ 0 = omega arith in ap (λ (n : ℕ). table (λ p. getD img (place B v s p) 0) o n ++ drop n buf) e
 
-  filled-is : cond (granted (transferAnswer v s o (length buf))) (readBuffer B v img s o buf) buf ≡ readBuffer B v img s o buf
+  filled-is : cond (granted (transferAnswer B v s o (length buf))) (readBuffer B v img s o buf) buf ≡ readBuffer B v img s o buf
   unfolding transferAnswer
   filled-is =
       by-test (ltb (size v s) o)
       (λ t. ap (λ (a : Answer). cond (granted a) (readBuffer B v img s o buf) buf) (cond-yes (ltb (size v s) o) (refused 15 0) _ t) ∙ sym (nothing (ltb→lt (size v s) o t)))
       (λ t. ap (λ (a : Answer). cond (granted a) (readBuffer B v img s o buf) buf) (cond-no (ltb (size v s) o) (refused 15 0) _ t))
 
-  pub answer-is : (len : ℕ) → transferAnswer v s o len ≡ transferOn (some bytes) o len
+  pub answer-is : (len : ℕ) → transferAnswer B v s o len ≡ transferOn B (some bytes) o len
   unfolding transferAnswer counted
   answer-is len =
-      ap (λ (n : ℕ). cond (ltb n o) (refused 15 0) (value (min len (n - o)))) (sym (length-content B v img s))
+      ap (λ (n : ℕ). cond (ltb n o) (refused 15 0) (transferred (min len (n - o)) (blocksMet B o (min len (n - o))))) (sym (length-content B v img s))
 
-  pub file-is : readFile B img s o buf ≡ readBy (some bytes) img o buf
+  pub file-is : readFile B img s o buf ≡ readBy B (some bytes) img o buf
   file-is = λ i. record { answer = answer-is (length buf) i; image = img; buffer = (filled-is ∙ buffer-is) i }
 
 -- ---- by name
@@ -118,17 +119,17 @@ module _ (B : ℕ) (sz : BlockSize B) (img : List ℕ) (ok : Consistent B img) w
         (λ t l. subst (P (Lookup.denied 13)) (sym (stands-not B img nm l)) none)
         (λ t l. subst (P (Lookup.inSlot (slotOf B w nm))) (sym (stands B img nm (slotOf B w nm) refl l)) (there (slotOf B w nm)))
 
-    pub read-by : (o : ℕ) (buf : List ℕ) → read B img nm o buf ≡ readBy (contents B img nm) img o buf
+    pub read-by : (o : ℕ) (buf : List ℕ) → read B img nm o buf ≡ readBy B (contents B img nm) img o buf
     unfolding read
     read-by o buf =
         ap (λ (x : Verdict). checked x (refuse img buf) (readStep B img nm o buf)) passed
-        ∙ by-standing (λ (x : Lookup) (c : Option (List ℕ)). looked x (refuse img buf) (λ s. readFile B img s o buf) ≡ readBy c img o buf) refl (λ s. file-is B img s o buf)
+        ∙ by-standing (λ (x : Lookup) (c : Option (List ℕ)). looked x (refuse img buf) (λ s. readFile B img s o buf) ≡ readBy B c img o buf) refl (λ s. file-is B img s o buf)
 
-    pub write-by : (o : ℕ) (bs : List ℕ) → write B img nm o bs .answer ≡ transferOn (contents B img nm) o (length bs)
+    pub write-by : (o : ℕ) (bs : List ℕ) → write B img nm o bs .answer ≡ transferOn B (contents B img nm) o (length bs)
     unfolding transferView
     write-by o bs =
         write-answer B img nm o bs passed
-        ∙ by-standing (λ (x : Lookup) (c : Option (List ℕ)). looked x refused (λ s. transferAnswer w s o (length bs)) ≡ transferOn c o (length bs)) refl (λ s. answer-is B img s o bs (length bs))
+        ∙ by-standing (λ (x : Lookup) (c : Option (List ℕ)). looked x refused (λ s. transferAnswer B w s o (length bs)) ≡ transferOn B c o (length bs)) refl (λ s. answer-is B img s o bs (length bs))
 
   misnamed : (nm : List ℕ) → (NameRule nm → ⊥) → (o : ℕ) (buf : List ℕ) → (read B img nm o buf ≡ refuse img buf 8 0) × (write B img nm o buf ≡ refuse img [] 8 0)
   unfolding read write
@@ -139,26 +140,42 @@ module _ (B : ℕ) (sz : BlockSize B) (img : List ℕ) (ok : Consistent B img) w
       )
 
   pub transfer-law : TransferLaws B img
-  transfer-law = record { misnamed = misnamed; reads = read-by; writes = write-by }
+  transfer-law = record {
+    misnamed = misnamed;
+    reads = read-by;
+    meets = λ s o c f h. meets B (omega (arith, sz .large)) w (ok .sound) s o c f h;
+    writes = write-by;
+  }
 
 -- ---- what a write covers
-count-some : (a : Answer) → 1 ≤ countOf a → a ≡ value (countOf a)
-count-some done h = absurd (omega arith)
-count-some (value c) h = refl
-count-some unused h = absurd (omega arith)
-count-some (file nm i z) h = absurd (omega arith)
-count-some (refused num p) h = absurd (omega arith)
+-- a is a granted transfer with its count
+abbrev Transfers : Answer → Type 0
+Transfers a = (m : ℕ) × (a ≡ transferred (countOf a) m)
 
-pub covers : (B : ℕ) (img : List ℕ) (w : Write) (nm : List ℕ) (p : ℕ) → T (coversAt B img w nm p) ↔ (T (sameName (w .name) nm) × (c : ℕ) × (request B img w .answer ≡ value c) × (w .offset ≤ p) × (p < w .offset + c))
+counts-some : (B : ℕ) (img : List ℕ) (w : Write) → 1 ≤ countOf (request B img w .answer) → Transfers (request B img w .answer)
+unfolding request write transferAnswer
+counts-some B img w = go (check B img) (lookup B (view B img) (w .name))
+  where
+    step : (b : Bool) (c m : ℕ) → 1 ≤ countOf (cond b (refused 15 0) (transferred c m)) → Transfers (cond b (refused 15 0) (transferred c m))
+    step true c m h = absurd (omega arith)
+    step false c m h = (m, refl)
+
+    go : (f : Verdict) (x : Lookup) → 1 ≤ countOf (checked f (refuse img []) (looked x (refuse img []) (λ s. writeFile B img s (w .offset) (w .bytes))) .answer) → Transfers (checked f (refuse img []) (looked x (refuse img []) (λ s. writeFile B img s (w .offset) (w .bytes))) .answer)
+    go (broken num p) x h = absurd (omega arith)
+    go consistent (Lookup.denied num) h = absurd (omega arith)
+    go consistent (Lookup.inSlot s) h = step (ltb (size (view B img) s) (w .offset)) _ _ h
+
+pub covers : (B : ℕ) (img : List ℕ) (w : Write) (nm : List ℕ) (p : ℕ) → T (coversAt B img w nm p) ↔ (T (sameName (w .name) nm) × (c : ℕ) × (m : ℕ) × (request B img w .answer ≡ transferred c m) × (w .offset ≤ p) × (p < w .offset + c))
 unfolding coversAt
 covers B img w nm p = (
   (λ t.
       let u = and-r (sameName (w .name) nm) _ t in
       let from : w .offset ≤ p = leb→le (w .offset) p (and-l (leb (w .offset) p) _ u) in
       let upto : p < w .offset + countOf (request B img w .answer) = ltb→lt p _ (and-r (leb (w .offset) p) _ u) in
-      (and-l (sameName (w .name) nm) _ t, countOf (request B img w .answer), count-some (request B img w .answer) (omega arith), from, upto)),
+      let some = counts-some B img w (omega arith) in
+      (and-l (sameName (w .name) nm) _ t, countOf (request B img w .answer), some .0, some .1, from, upto)),
   λ g.
-      let n : countOf (request B img w .answer) ≡ g .1 = ap countOf (g .2) in
+      let n : countOf (request B img w .answer) ≡ g .1 = ap countOf (g .3) in
       and-of (sameName (w .name) nm) _ (g .0)
-      (and-of (leb (w .offset) p) _ (le→leb (w .offset) p (g .3)) (lt→ltb p _ (omega (arith, g .4, n)))),
+      (and-of (leb (w .offset) p) _ (le→leb (w .offset) p (g .4)) (lt→ltb p _ (omega (arith, g .5, n)))),
 )

@@ -15,7 +15,7 @@ use Rattle.list_laws.specs.Test.{by-test, cond-yes, cond-no, and-of, eqb-of, sa
 use Rattle.tfs_spec.specs.Layout.{BlockSize, blocks, View, view, size, place, freeBlocks}
 use Rattle.tfs_spec.specs.Check.{Verdict, consistent, broken, check}
 use Rattle.tfs_spec.specs.Consistent.{Bytes, Consistent}
-use Rattle.tfs_spec.specs.Requests.{Answer, done, value, unused, file, refused, granted, refusalOf, countOf, Outcome, checked, Lookup, inSlot, denied as notFound, lookup, looked, counted, transferAnswer, readBuffer, readFile, refuse, read, perform, write, freeAnswer, requests, afterAll}
+use Rattle.tfs_spec.specs.Requests.{Answer, done, value, transferred, unused, file, refused, granted, refusalOf, countOf, Outcome, checked, Lookup, inSlot, denied as notFound, lookup, looked, counted, transferAnswer, readBuffer, readFile, refuse, read, perform, write, freeAnswer, requests, afterAll}
 use Rattle.tfs_spec.specs.Traces.{numbersFit, allBelow, callNumbers, expectedNumbers, Call, creating, removing, reading, writing, counting, Expected, nothing, bytes, amount, refusal, Record, recordOf, recordBytes, traceBytes, Trace, finished, spoiled, holds, readTrace, Fitting, of-create, of-remove, of-read, of-write, of-count, of-refusal, Recordable, AllRecordable, holdsAll}
 use Rattle.tfs_spec.specs.Replays.{requestOf, run, bytesRead, agrees, Replayed, replayed, malformedAt, differsAt, denied, Replay, replayOf, replayOn, replay, resultOf, answered, recorded, afterCalls, callsOf, SmallCalls, AllAgree, ReplayRule, refused-by-check, whole, stops-malformed, stops-differing, countOn, goOn}
 use Rattle.tfs_facts.specs.CheckMeans.{check-means, check-breaks}
@@ -31,6 +31,7 @@ use Rattle.tfs_proofs.specs.Histories.{history-law}
 granted-zero : (a : Answer) → T (granted a) → refusalOf a ≡ 0
 granted-zero done t = refl
 granted-zero (value x) t = refl
+granted-zero (transferred c m) t = refl
 granted-zero unused t = refl
 granted-zero (file nm i z) t = refl
 granted-zero (refused num p) t = absurd t
@@ -265,6 +266,7 @@ replay-stays B sz img ok t = subst (λ (x : Replay). Consistent B (x .image)) (s
 refused-of : (a : Answer) → T (not (granted a)) → (num : ℕ) × (p : ℕ) × (a ≡ refused num p)
 refused-of done t = absurd t
 refused-of (value x) t = absurd t
+refused-of (transferred c m) t = absurd t
 refused-of unused t = absurd t
 refused-of (file nm i z) t = absurd t
 refused-of (refused num p) t = (num, p, refl)
@@ -273,12 +275,12 @@ transfer-count : (B : ℕ) (v : View) (nm : List ℕ) (o len : ℕ) → countOf 
 unfolding transferView transferAnswer counted
 transfer-count B v nm o len = go (lookup B v nm)
   where
-    past : (b : Bool) (z : ℕ) → countOf (cond b (refused 15 0) (value (min len z))) ≤ len
-    past true z = omega arith
-    past false z = omega arith
+    past : (b : Bool) (z m : ℕ) → countOf (cond b (refused 15 0) (transferred (min len z) m)) ≤ len
+    past true z m = omega arith
+    past false z m = omega arith
 
-    go : (x : Lookup) → countOf (looked x refused (λ s. cond (ltb (size v s) o) (refused 15 0) (value (min len (size v s - o))))) ≤ len
-    go (inSlot s) = past (ltb (size v s) o) (size v s - o)
+    go : (x : Lookup) → countOf (looked x refused (λ s. transferAnswer B v s o len)) ≤ len
+    go (inSlot s) = past (ltb (size v s) o) (size v s - o) _
     go (notFound num) = omega arith
 
 module _ (B : ℕ) (sz : BlockSize B) (small : 8 * B * B ≤ 4294967296) (img : List ℕ) (ok : Consistent B img) where
@@ -353,11 +355,11 @@ gotFrom B img s o len = cond (ltb (size (view B img) s) o) [] (table (λ p. getD
 
 file-got : (B : ℕ) (img : List ℕ) (s o : ℕ) (buf : List ℕ) → bytesRead (readFile B img s o buf) ≡ gotFrom B img s o (length buf)
 unfolding transferAnswer readBuffer
-file-got B img s o buf = go (ltb (size (view B img) s) o) (counted (view B img) s o (length buf))
+file-got B img s o buf = go (ltb (size (view B img) s) o) (counted (view B img) s o (length buf)) _
   where
-    go : (b : Bool) (c : ℕ) → take (countOf (cond b (refused 15 0) (value c))) (cond (granted (cond b (refused 15 0) (value c))) (table (λ p. getD img (place B (view B img) s p) 0) o c ++ drop c buf) buf) ≡ cond b [] (table (λ p. getD img (place B (view B img) s p) 0) o c)
-    go true c = refl
-    go false c = take-at (table (λ p. getD img (place B (view B img) s p) 0) o c) (drop c buf) c (length-table (λ p. getD img (place B (view B img) s p) 0) o c)
+    go : (b : Bool) (c m : ℕ) → take (countOf (cond b (refused 15 0) (transferred c m))) (cond (granted (cond b (refused 15 0) (transferred c m))) (table (λ p. getD img (place B (view B img) s p) 0) o c ++ drop c buf) buf) ≡ cond b [] (table (λ p. getD img (place B (view B img) s p) 0) o c)
+    go true c m = refl
+    go false c m = take-at (table (λ p. getD img (place B (view B img) s p) 0) o c) (drop c buf) c (length-table (λ p. getD img (place B (view B img) s p) 0) o c)
 
 module _ (B : ℕ) (img nm : List ℕ) (o : ℕ) (a b : List ℕ) (long : length a ≡ length b) where
   same-answer : read B img nm o a .answer ≡ read B img nm o b .answer
@@ -366,7 +368,7 @@ module _ (B : ℕ) (img nm : List ℕ) (o : ℕ) (a b : List ℕ) (long : length
     where
       go : (v : Verdict) (x : Lookup) → checked v (refuse img a) (looked x (refuse img a) (λ s. readFile B img s o a)) .answer ≡ checked v (refuse img b) (looked x (refuse img b) (λ s. readFile B img s o b)) .answer
       go (broken num p) x = refl
-      go consistent (inSlot s) = ap (transferAnswer (view B img) s o) long
+      go consistent (inSlot s) = ap (transferAnswer B (view B img) s o) long
       go consistent (notFound num) = refl
 
   same-got : bytesRead (read B img nm o a) ≡ bytesRead (read B img nm o b)

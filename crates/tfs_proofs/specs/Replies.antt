@@ -10,7 +10,7 @@ use lib.Dec.{T, ltb}
 use Rattle.tfs_spec.specs.Layout.{BlockSize, view}
 use Rattle.tfs_spec.specs.Check.{Verdict, consistent, broken, check, tooShort}
 use Rattle.tfs_spec.specs.Consistent.{Consistent, FirstBroken}
-use Rattle.tfs_spec.specs.Requests.{Answer, done, value, unused, file, refused, granted, Outcome, refuse, checked, format, checkAnswer, create, remove, read, write, listAnswer, freeAnswer, Change, creates, removes, writes, perform, Request, changes, checks, reads, lists, counts, lent, reply, Operation, formats, requests, operate, afterAll}
+use Rattle.tfs_spec.specs.Requests.{Answer, done, value, transferred, unused, file, refused, granted, Outcome, refuse, checked, format, checkAnswer, create, remove, read, write, listAnswer, freeAnswer, Change, creates, removes, writes, perform, Request, changes, checks, reads, lists, counts, lent, reply, Operation, formats, requests, operate, afterAll}
 use Rattle.tfs_spec.specs.Answers.{Rule}
 use Rattle.tfs_spec.specs.Effects.{SameRead, Beyond, SameVolume, Kept}
 use Rattle.tfs_facts.specs.CheckMeans.{check-means, check-breaks}
@@ -40,6 +40,7 @@ told-broken (broken m q) num p = ((λ e. ap₂ broken (cc) (cc)), λ e. ap₂ re
 pub granted-or-refused : (a : Answer) → T (granted a) ↔ ((num p : ℕ) → a ≢ refused num p)
 granted-or-refused done = ((λ t num p e. absurd (let z : _≡_ {A = ℕ} 0 1 = cc in omega arith)), λ f. tt)
 granted-or-refused (value x) = ((λ t num p e. absurd (let z : _≡_ {A = ℕ} 0 1 = cc in omega arith)), λ f. tt)
+granted-or-refused (transferred c m) = ((λ t num p e. absurd (let z : _≡_ {A = ℕ} 0 1 = cc in omega arith)), λ f. tt)
 granted-or-refused unused = ((λ t num p e. absurd (let z : _≡_ {A = ℕ} 0 1 = cc in omega arith)), λ f. tt)
 granted-or-refused (file nm i z) = ((λ t num p e. absurd (let z : _≡_ {A = ℕ} 0 1 = cc in omega arith)), λ f. tt)
 granted-or-refused (refused m q) = ((λ t. absurd t), λ f. f m q refl)
@@ -70,9 +71,9 @@ Told r a = Other a ⊎ ((s : ℕ) × (r ≡ lists s) × Numbered a)
 rule-told : (B : ℕ) (img : List ℕ) (r : Request) (a : Answer) → Rule B (view B img) r a → Told r a
 rule-told B img (changes (creates nm z)) a w = inl (create-other B (view B img) nm z a w)
 rule-told B img (changes (removes nm)) a w = inl (find-other B (view B img) nm _ (λ s b e. subst Other e tt) a w)
-rule-told B img (changes (writes nm o bs)) a w = inl (find-other B (view B img) nm _ (transfer-other (view B img) o (length bs)) a w)
+rule-told B img (changes (writes nm o bs)) a w = inl (find-other B (view B img) nm _ (transfer-other B (view B img) o (length bs)) a w)
 rule-told B img checks a w = inl (subst Other w tt)
-rule-told B img (reads nm o buf) a w = inl (find-other B (view B img) nm _ (transfer-other (view B img) o (length buf)) a w)
+rule-told B img (reads nm o buf) a w = inl (find-other B (view B img) nm _ (transfer-other B (view B img) o (length buf)) a w)
 rule-told B img (lists s) a w = inr (s, refl, list-numbered B (view B img) s a w)
 rule-told B img counts a w = inl (subst Other w tt)
 

@@ -21,7 +21,7 @@ slotFor B v nm = slotGiven B (lookup B v nm)
 
 -- what read and write answer on a consistent volume
 unfoldable pub transferView : ℕ → View → List ℕ → ℕ → ℕ → Answer
-transferView B v nm o len = looked (lookup B v nm) refused (λ s. transferAnswer v s o len)
+transferView B v nm o len = looked (lookup B v nm) refused (λ s. transferAnswer B v s o len)
 
 module _ (B : ℕ) (v : View) (nm : List ℕ) where
   -- below the last slot it is that of a name that requests take
@@ -46,7 +46,7 @@ module _ (B : ℕ) (img nm : List ℕ) (o : ℕ) (buf : List ℕ) where
   unfolding read transferView slotFor
   read-as = ap (checked (check B img) (refuse img buf)) (go (lookup B (view B img) nm))
     where
-      go : (x : Lookup) → looked x (refuse img buf) (λ s. readFile B img s o buf) ≡ record { answer = looked x refused (λ s. transferAnswer (view B img) s o (length buf)); image = img; buffer = cond (granted (looked x refused (λ s. transferAnswer (view B img) s o (length buf)))) (readBuffer B (view B img) img (slotGiven B x) o buf) buf }
+      go : (x : Lookup) → looked x (refuse img buf) (λ s. readFile B img s o buf) ≡ record { answer = looked x refused (λ s. transferAnswer B (view B img) s o (length buf)); image = img; buffer = cond (granted (looked x refused (λ s. transferAnswer B (view B img) s o (length buf)))) (readBuffer B (view B img) img (slotGiven B x) o buf) buf }
       go (inSlot s) = refl
       go (denied num) = refl
 
@@ -54,7 +54,7 @@ module _ (B : ℕ) (img nm : List ℕ) (o : ℕ) (buf : List ℕ) where
   unfolding write transferView slotFor
   write-as = ap (checked (check B img) (refuse img [])) (go (lookup B (view B img) nm))
     where
-      go : (x : Lookup) → looked x (refuse img []) (λ s. writeFile B img s o buf) ≡ record { answer = looked x refused (λ s. transferAnswer (view B img) s o (length buf)); image = cond (granted (looked x refused (λ s. transferAnswer (view B img) s o (length buf)))) (writeImage B (view B img) img (slotGiven B x) o buf) img; buffer = [] }
+      go : (x : Lookup) → looked x (refuse img []) (λ s. writeFile B img s o buf) ≡ record { answer = looked x refused (λ s. transferAnswer B (view B img) s o (length buf)); image = cond (granted (looked x refused (λ s. transferAnswer B (view B img) s o (length buf)))) (writeImage B (view B img) img (slotGiven B x) o buf) img; buffer = [] }
       go (inSlot s) = refl
       go (denied num) = refl
 

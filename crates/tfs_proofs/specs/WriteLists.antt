@@ -14,7 +14,7 @@ use Rattle.tfs_spec.specs.Layout.{slots, inodeSize, sameName, View, view, name,
 use mathlib.Core.Option.{Option·map}
 use Rattle.tfs_spec.specs.Check.{consistent, broken, check, checkView, tooShort}
 use Rattle.tfs_spec.specs.Consistent.{File, Sound}
-use Rattle.tfs_spec.specs.Requests.{countOf, Answer, value, refused, granted, refuse, Lookup, inSlot, denied, lookup, looked, counted, transferAnswer, writeImage, writeFile, write}
+use Rattle.tfs_spec.specs.Requests.{countOf, Answer, transferred, refused, granted, refuse, Lookup, inSlot, denied, lookup, looked, counted, transferAnswer, writeImage, writeFile, write}
 use Rattle.tfs_spec.specs.Laws.{Write, request, after, answers, coversAt, lastAt, WritesLaw, piecesImage, piecesCount, PiecesLaw}
 use Rattle.tfs_facts.specs.Views.{inodes-out, has}
 use Rattle.tfs_proofs.specs.Content.{contents-at, contents-in, standing-map, content-by}
@@ -44,23 +44,23 @@ take-min k l =
     ]
 
 -- what a transfer moves is what lies between offset and size
-transfer-core : (size o : ℕ) (bs : List ℕ) → countOf (cond (ltb size o) (refused 15 0) (value (min (length bs) (size - o)))) ≡ length (take (size - o) bs)
-transfer-core size o bs =
+transfer-core : (size o m : ℕ) (bs : List ℕ) → countOf (cond (ltb size o) (refused 15 0) (transferred (min (length bs) (size - o)) m)) ≡ length (take (size - o) bs)
+transfer-core size o m bs =
     by-test (ltb size o)
     (λ u.
-    ap countOf (cond-yes (ltb size o) (refused 15 0) (value (min (length bs) (size - o))) u)
+    ap countOf (cond-yes (ltb size o) (refused 15 0) (transferred (min (length bs) (size - o)) m) u)
     ∙ omega (arith, length-take (size - o) bs, ltb→lt size o u))
-    (λ u. ap countOf (cond-no (ltb size o) (refused 15 0) (value (min (length bs) (size - o))) u) ∙ omega (arith, length-take (size - o) bs))
+    (λ u. ap countOf (cond-no (ltb size o) (refused 15 0) (transferred (min (length bs) (size - o)) m) u) ∙ omega (arith, length-take (size - o) bs))
 
-image-core : (size o : ℕ) (a : ℕ → ℕ) (img bs : List ℕ) → cond (granted (cond (ltb size o) (refused 15 0) (value (min (length bs) (size - o))))) (storeAt a img o (take (min (length bs) (size - o)) bs)) img ≡ storeAt a img o (take (size - o) bs)
-image-core size o a img bs =
+image-core : (size o m : ℕ) (a : ℕ → ℕ) (img bs : List ℕ) → cond (granted (cond (ltb size o) (refused 15 0) (transferred (min (length bs) (size - o)) m))) (storeAt a img o (take (min (length bs) (size - o)) bs)) img ≡ storeAt a img o (take (size - o) bs)
+image-core size o m a img bs =
     let full : List ℕ = storeAt a img o (take (min (length bs) (size - o)) bs) in
     by-test (ltb size o)
     (λ u.
-    ap (λ (x : Answer). cond (granted x) full img) (cond-yes (ltb size o) (refused 15 0) (value (min (length bs) (size - o))) u)
+    ap (λ (x : Answer). cond (granted x) full img) (cond-yes (ltb size o) (refused 15 0) (transferred (min (length bs) (size - o)) m) u)
     ∙ (let z : size - o ≡ 0 = omega (arith, ltb→lt size o u) in rw z))
     (λ u.
-    ap (λ (x : Answer). cond (granted x) full img) (cond-no (ltb size o) (refused 15 0) (value (min (length bs) (size - o))) u)
+    ap (λ (x : Answer). cond (granted x) full img) (cond-no (ltb size o) (refused 15 0) (transferred (min (length bs) (size - o)) m) u)
     ∙ ap (storeAt a img o) (take-min (size - o) bs))
 
 -- there is no file past the last slot
@@ -77,8 +77,8 @@ module _ (B : ℕ) (img : List ℕ) (passed : check B img ≡ consistent) (w : W
   unfolding transferView transferAnswer putOf counted slotFor
   request-count = ap countOf request-answer ∙ go (lookup B (view B img) (w .name))
     where
-      go : (x : Lookup) → countOf (looked x refused (λ s. transferAnswer (view B img) s (w .offset) (length (w .bytes)))) ≡ length (take (size (view B img) (slotGiven B x) - w .offset) (w .bytes))
-      go (inSlot s) = transfer-core (size (view B img) s) (w .offset) (w .bytes)
+      go : (x : Lookup) → countOf (looked x refused (λ s. transferAnswer B (view B img) s (w .offset) (length (w .bytes)))) ≡ length (take (size (view B img) (slotGiven B x) - w .offset) (w .bytes))
+      go (inSlot s) = transfer-core (size (view B img) s) (w .offset) _ (w .bytes)
       go (denied num) =
           omega (arith, no-file B img (slots B) refl, length-take (size (view B img) (slots B) - w .offset) (w .bytes))
 
@@ -87,7 +87,7 @@ module _ (B : ℕ) (img : List ℕ) (passed : check B img ≡ consistent) (w : W
   request-image = rw passed (go (lookup B (view B img) (w .name)))
     where
       go : (x : Lookup) → looked x (refuse img []) (λ s. writeFile B img s (w .offset) (w .bytes)) .image ≡ storeAt (place B (view B img) (slotGiven B x)) img (w .offset) (take (size (view B img) (slotGiven B x) - w .offset) (w .bytes))
-      go (inSlot s) = image-core (size (view B img) s) (w .offset) (place B (view B img) s) img (w .bytes)
+      go (inSlot s) = image-core (size (view B img) s) (w .offset) _ (place B (view B img) s) img (w .bytes)
       go (denied num) =
           let z : size (view B img) (slots B) - w .offset ≡ 0 = omega (arith, no-file B img (slots B) refl) in
           rw z

@@ -4,7 +4,7 @@ use mathlib.Core.Bool.{Bool, false, _&&_}
 use Prim.Native.Nat.{ℕ}
 use mathlib.Core.List.{List}
 use lib.Dec.{eqb}
-use Rattle.tfs_spec.specs.Requests.{Answer, refused, granted, refusalOf, countOf, Outcome}
+use Rattle.tfs_spec.specs.Requests.{Answer, value, transferred, refused, granted, refusalOf, countOf, Outcome}
 use Rattle.tfs_spec.specs.Traces as rules
 use Rattle.tfs_spec.specs.Replays.{agrees}
 use Rattle.tfs_steps.specs.Told.{stepTold, removeTold}
@@ -48,6 +48,13 @@ wanted (Amount n) = record { at = 0; len = 0 }
 wanted (Refusal n) = record { at = 0; len = 0 }
 
 -- ---- by the cases that the code takes
+-- the blocks that a write meets do not enter
+pub write-granted : (c m : ℕ) (e : Expected) → answerAgrees (value c) e ≡ answerAgrees (transferred c m) e
+write-granted c m Nothing = refl
+write-granted c m (Bytes s) = refl
+write-granted c m (Amount n) = refl
+write-granted c m (Refusal n) = refl
+
 pub read-granted : (r : Compared) (e : Expected) → comparedRefusal r ≡ 0 → bytesAgree (comparedSame r) e ≡ comparedAgrees r e
 read-granted r Nothing z = refl
 read-granted r (Bytes s) z = refl
@@ -102,15 +109,15 @@ expects (rules.of-count n) = tt
 expects (rules.of-refusal c n h) = expects-refusal c n
 
 module _ (t : List ℕ) where
-  pub answer-agrees : (o : Outcome) (e : Expected) → NoBytes (expectedOf t e) → answerAgrees (o .answer) e ≡ agrees o (expectedOf t e)
+  answer-agrees : (o : Outcome) (e : Expected) → NoBytes (expectedOf t e) → answerAgrees (o .answer) e ≡ agrees o (expectedOf t e)
   unfolding agrees
   answer-agrees o Nothing h = refl
   answer-agrees o (Bytes s) h = absurd h
   answer-agrees o (Amount n) h = refl
   answer-agrees o (Refusal n) h = refl
 
-  pub step-agrees : (s : Step) (o : Outcome) (e : Expected) → NoBytes (expectedOf t e) → stepTold s ≡ o .answer → answerAgrees (stepTold s) e ≡ agrees o (expectedOf t e)
-  step-agrees s o e h told = ap (λ (a : Answer). answerAgrees a e) told ∙ answer-agrees o e h
+  pub told-agrees : (a : Answer) (o : Outcome) (e : Expected) → NoBytes (expectedOf t e) → a ≡ o .answer → answerAgrees a e ≡ agrees o (expectedOf t e)
+  told-agrees a o e h told = ap (λ (x : Answer). answerAgrees x e) told ∙ answer-agrees o e h
 
   same-granted : (s : Step) → granted (stepTold s) ≡ granted (removeTold s)
   same-granted (step.Granted x) = refl

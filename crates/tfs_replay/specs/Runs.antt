@@ -7,7 +7,7 @@ use native.Mathlib.Omega.{arith}
 use Rattle.lists.specs.Lists.{zeros}
 use Rattle.tfs_spec.specs.Layout.{view}
 use Rattle.tfs_spec.specs.Check.{consistent, check}
-use Rattle.tfs_spec.specs.Requests.{Outcome, Lookup, inSlot, denied, looked, lookup, createStep, create, removeStep, remove, refuse, readFile, readStep, read, writeStep, write, freeStep, freeAnswer, Change, perform, tell}
+use Rattle.tfs_spec.specs.Requests.{Answer, Outcome, Lookup, inSlot, denied, looked, lookup, createStep, create, removeStep, remove, refuse, readFile, readStep, read, writeStep, write, freeStep, freeAnswer, Change, perform, tell}
 use Rattle.tfs_spec.specs.Traces as rules
 use Rattle.tfs_spec.specs.Replays.{run, agrees}
 use Rattle.tfs_facts.specs.CheckMeans.{check-means}
@@ -24,7 +24,7 @@ use Rattle.tfs_trace.specs.declared.Call.{Call}
 use Rattle.tfs_trace.specs.declared.Call.the-variants.{Create, Remove, Read, Write, Free}
 use Rattle.tfs_trace.specs.declared.Expected.{Expected}
 use Rattle.tfs_trace.specs.declared.Expected.the-variants.{Nothing, Bytes, Amount, Refusal}
-use Rattle.tfs_replay.specs.Agree.{answerAgrees, comparedAgrees, wanted, Expects, expects, step-agrees, remove-agrees, read-agrees}
+use Rattle.tfs_replay.specs.Agree.{answerAgrees, comparedAgrees, wanted, Expects, expects, told-agrees, remove-agrees, read-agrees}
 
 -- where the bytes that are expected lie
 pub wanted-inside : (t : List ℕ) (e : Expected) → ExpectedInside t e → Inside t (wanted e)
@@ -91,36 +91,37 @@ module _ (img t : List ℕ) (item : Record) (passed : check 512 img ≡ consiste
       let same : new ≡ run 512 img (callOf t (item .call)) .image = n ∙ ap (λ (x : Outcome). x .image) (sym e) in
       (a ∙ ap (λ (x : Outcome). agrees x (expectedOf t (item .expected))) (sym e), same, ap (check 512) same ∙ stays img passed (callOf t (item .call)))
 
-  module _ (s : Step) (r : Bool) (new nm : List ℕ) (said : r ≡ answerAgrees (stepTold s) (item .expected)) where
-    pub ran-create : (n : Span) (z : ℕ) → item .call ≡ Create n z → nm ≡ spanOf t n → stepTold s ≡ createStep 512 img nm z .answer → new ≡ createStep 512 img nm z .image → Ran img t item r new
+  -- of a request that answers a
+  module _ (a : Answer) (r : Bool) (new nm : List ℕ) (said : r ≡ answerAgrees a (item .expected)) where
+    pub ran-create : (n : Span) (z : ℕ) → item .call ≡ Create n z → nm ≡ spanOf t n → a ≡ createStep 512 img nm z .answer → new ≡ createStep 512 img nm z .image → Ran img t item r new
     ran-create n z e name told image =
         ran (createStep 512 img nm z) r new
         (ap (λ (x : Call). run 512 img (callOf t x)) e ∙ ap (λ (x : List ℕ). run 512 img (rules.creating x z)) (sym name) ∙ run-create img passed nm z)
-        (said ∙ step-agrees t s (createStep 512 img nm z) (item .expected) (may (Create n z) e) told)
+        (said ∙ told-agrees t a (createStep 512 img nm z) (item .expected) (may (Create n z) e) told)
         image
 
-    pub ran-remove : (n : Span) → item .call ≡ Remove n → nm ≡ spanOf t n → removeTold s ≡ removeStep 512 img nm .answer → new ≡ removeStep 512 img nm .image → Ran img t item r new
-    ran-remove n e name told image =
-        ran (removeStep 512 img nm) r new
-        (ap (λ (x : Call). run 512 img (callOf t x)) e ∙ ap (λ (x : List ℕ). run 512 img (rules.removing x)) (sym name) ∙ run-remove img passed nm)
-        (said ∙ remove-agrees t s (removeStep 512 img nm) (item .expected) (may (Remove n) e) told)
-        image
-
-    pub ran-write : (n b : Span) (o : ℕ) (bs : List ℕ) → item .call ≡ Write n o b → nm ≡ spanOf t n → bs ≡ spanOf t b → stepTold s ≡ writeStep 512 img nm o bs .answer → new ≡ writeStep 512 img nm o bs .image → Ran img t item r new
+    pub ran-write : (n b : Span) (o : ℕ) (bs : List ℕ) → item .call ≡ Write n o b → nm ≡ spanOf t n → bs ≡ spanOf t b → a ≡ writeStep 512 img nm o bs .answer → new ≡ writeStep 512 img nm o bs .image → Ran img t item r new
     ran-write n b o bs e name bytes told image =
         ran (writeStep 512 img nm o bs) r new
         (ap (λ (x : Call). run 512 img (callOf t x)) e
         ∙ ap (λ (x : List ℕ). run 512 img (rules.writing x o (spanOf t b))) (sym name)
         ∙ ap (λ (x : List ℕ). run 512 img (rules.writing nm o x)) (sym bytes)
         ∙ run-write img passed nm o bs)
-        (said ∙ step-agrees t s (writeStep 512 img nm o bs) (item .expected) (may (Write n o b) e) told)
+        (said ∙ told-agrees t a (writeStep 512 img nm o bs) (item .expected) (may (Write n o b) e) told)
         image
 
-  pub ran-count : (s : Step) (r : Bool) → r ≡ answerAgrees (stepTold s) (item .expected) → item .call ≡ Free → stepTold s ≡ freeStep 512 img → Ran img t item r img
-  ran-count s r said e told =
+  pub ran-remove : (s : Step) (r : Bool) (new nm : List ℕ) → r ≡ answerAgrees (stepTold s) (item .expected) → (n : Span) → item .call ≡ Remove n → nm ≡ spanOf t n → removeTold s ≡ removeStep 512 img nm .answer → new ≡ removeStep 512 img nm .image → Ran img t item r new
+  ran-remove s r new nm said n e name told image =
+      ran (removeStep 512 img nm) r new
+      (ap (λ (x : Call). run 512 img (callOf t x)) e ∙ ap (λ (x : List ℕ). run 512 img (rules.removing x)) (sym name) ∙ run-remove img passed nm)
+      (said ∙ remove-agrees t s (removeStep 512 img nm) (item .expected) (may (Remove n) e) told)
+      image
+
+  pub ran-count : (a : Answer) (r : Bool) → r ≡ answerAgrees a (item .expected) → item .call ≡ Free → a ≡ freeStep 512 img → Ran img t item r img
+  ran-count a r said e told =
       ran (tell img (freeStep 512 img)) r img
       (ap (λ (x : Call). run 512 img (callOf t x)) e ∙ run-count img passed)
-      (said ∙ step-agrees t s (tell img (freeStep 512 img)) (item .expected) (may Free e) told)
+      (said ∙ told-agrees t a (tell img (freeStep 512 img)) (item .expected) (may Free e) told)
       refl
 
   pub ran-read : (n : Span) (o len : ℕ) (c : Compared) (r : Bool) (nm bs : List ℕ) → item .call ≡ Read n o len → nm ≡ spanOf t n → bs ≡ spanOf t (wanted (item .expected)) → Compares (readStep 512 img nm o (zeros len)) bs c → r ≡ comparedAgrees c (item .expected) → Ran img t item r img

@@ -2,9 +2,11 @@
 ghost use mathlib.Core.Path.{_≡_};
 ghost use Rattle.tfs_spec.specs.Requests.{value, refused};
 ghost use Rattle.tfs_steps.specs.Told.{stepTold};
+ghost use Rattle.tfs_transfer.specs.Told.{movedTold};
 ghost use Rattle.tfs_replay.specs.Agree.{answerAgrees, bytesAgree, comparedAgrees};
 use tfs_steps::Step;
 use tfs_trace::Expected;
+use tfs_transfer::Moved;
 use tfs_transfer::compare::Compared;
 
 // Of a request that is granted with the number x.
@@ -31,13 +33,23 @@ fn refused_agrees(number: u32, expected: Expected) -> bool
     }
 }
 
-// Of any request but a read.
+// Of a request that moves no bytes.
 pub fn step_agrees(step: Step, expected: Expected) -> bool
     ensures { λ r. ⌜ r ≡ answerAgrees (stepTold step) expected ⌝ }
 {
     match step {
         Step::Granted(x) => granted_agrees(x, expected),
         Step::Refused(n) => refused_agrees(n, expected),
+    }
+}
+
+// Of a write; how many blocks it met does not enter.
+pub fn write_agrees(moved: Moved, expected: Expected) -> bool
+    ensures { λ r. ⌜ r ≡ answerAgrees (movedTold moved) expected ⌝ }
+{
+    match moved {
+        Moved::Granted { count, blocks: _ } => granted_agrees(count, expected),
+        Moved::Refused(n) => refused_agrees(n, expected),
     }
 }
 

@@ -6,6 +6,7 @@ ghost use Rattle.tfs_trace.specs.Told.{spanOf, callOf, expectedOf, Inside, Insi
 ghost use Rattle.tfs_replay.specs.Agree.{wanted};
 use crate::agree::read_agrees;
 use crate::agree::step_agrees;
+use crate::agree::write_agrees;
 use tfs_change::create_step;
 use tfs_change::remove_step;
 use tfs_steps::free::free_step;
@@ -61,7 +62,7 @@ pub fn run_record(image: &mut [u8], trace: &[u8], item: Record) -> bool
         }
         Call::Write(name, offset, span) => {
             let bytes = bytes_of(trace, span);
-            step_agrees(
+            write_agrees(
                 write_step(image, bytes_of(trace, name), offset, bytes),
                 expected,
             )

@@ -1,15 +1,16 @@
--- The check and the answers of requests, in plain facts: demand 1, and of demand 2 "granted exactly when the rules grant it".
+-- The check and the answers of requests, in plain facts: demand 1, and of demand 2 "granted exactly when the rules grant it"; the number of blocks that a transfer meets.
 use mathlib.Core.Path.{_≡_}
 use mathlib.Core.Logic.{_≢_, _↔_}
-use mathlib.Core.Bool.{true, false, not}
-use Prim.Native.Nat.{ℕ, _+_, _-_, _*_, _≤_, _<_, min}
+use mathlib.Core.Bool.{Bool, true, false, not}
+use Prim.Native.Nat.{ℕ, _+_, _-_, _*_, _/_, _≤_, _<_, min}
 use mathlib.Core.List.{List}
 use lib.ListN.{length, getD}
-use lib.Dec.{T}
-use Rattle.tfs_spec.specs.Layout.{slots, maxSize, need, mapBit, labelAllowed, nameAllowed, View, view, free, inode, name, size, freeBlocks}
+use lib.Dec.{T, ltb, eqb}
+use Rattle.lists.specs.Lists.{least, count}
+use Rattle.tfs_spec.specs.Layout.{slots, maxSize, need, mapBit, labelAllowed, nameAllowed, View, view, free, inode, name, size, number, place, freeBlocks}
 use Rattle.tfs_spec.specs.Check.{consistent, broken, check}
 use Rattle.tfs_spec.specs.Consistent.{File, Consistent, FirstBroken}
-use Rattle.tfs_spec.specs.Requests.{Answer, done, value, unused, file, refused, granted, refuse, format, checkAnswer, creates, removes, writes, Request, changes, checks, reads, lists, counts, lent, reply}
+use Rattle.tfs_spec.specs.Requests.{Answer, done, value, transferred, unused, file, refused, granted, refuse, format, blocksMet, checkAnswer, creates, removes, writes, Request, changes, checks, reads, lists, counts, lent, reply}
 
 -- ---- the check
 pub record CheckLaws (B : ℕ) (img : List ℕ) : Type 0 where
@@ -86,12 +87,23 @@ pub data CreateRule (B : ℕ) (v : View) (nm : List ℕ) (z : ℕ) : Answer → 
   -- granted: "lowest free block becomes the inode"; "Result: the inode number"
   created : (s h : ℕ) → NameRule nm → z ≤ maxSize B → Fresh B v nm → Vacant B v s → 1 + need B z ≤ freeBlocks v → LowestBlock v h → CreateRule B v nm z (value h)
 
+-- where position p lies at a p: whether block b, of B bytes, holds one of the c positions from o on
+unfoldable pub holdsPart : ℕ → (ℕ → ℕ) → ℕ → ℕ → ℕ → Bool
+holdsPart B a o c b = ltb (least (λ i. eqb (a (o + i) / B) b) c) c
+
+-- m is "how many distinct content blocks" the c positions from o on of the file in slot s meet
+pub record Meets (B : ℕ) (v : View) (s o c m : ℕ) : Type 0 where
+  -- so many blocks of the volume hold one of these positions
+  pub distinct : count (holdsPart B (place B v s) o c) (v .n) ≡ m
+  -- and as many of those that the file lists: none of them is listed twice
+  pub listed : count (λ k. holdsPart B (place B v s) o c (number v s k)) (need B (size v s)) ≡ m
+
 -- read and write, of the file in slot s
-pub data TransferRule (v : View) (o len s : ℕ) : Answer → Type 0 where
+pub data TransferRule (B : ℕ) (v : View) (o len s : ℕ) : Answer → Type 0 where
   -- 15: "offset greater than size"
-  beyond : size v s < o → TransferRule v o len s (refused 15 0)
-  -- granted: "count = smaller of buffer length and size − offset"
-  moved : o ≤ size v s → TransferRule v o len s (value (min len (size v s - o)))
+  beyond : size v s < o → TransferRule B v o len s (refused 15 0)
+  -- granted: "count = smaller of buffer length and size − offset"; "how many distinct content blocks their range meets, beside the byte count"
+  moved : (c m : ℕ) → o ≤ size v s → c ≡ min len (size v s - o) → Meets B v s o c m → TransferRule B v o len s (transferred c m)
 
 pub data ListRule (B : ℕ) (v : View) (s : ℕ) : Answer → Type 0 where
   -- 14: "slot over 24"
@@ -112,9 +124,9 @@ pub data FormatRule (B : ℕ) (img label : List ℕ) : Answer → Type 0 where
 abbrev pub Rule : ℕ → View → Request → Answer → Type 0
 Rule B v (changes (creates nm z)) a = CreateRule B v nm z a
 Rule B v (changes (removes nm)) a = FindRule B v nm (λ s b. done ≡ b) a
-Rule B v (changes (writes nm o bs)) a = FindRule B v nm (TransferRule v o (length bs)) a
+Rule B v (changes (writes nm o bs)) a = FindRule B v nm (TransferRule B v o (length bs)) a
 Rule B v checks a = done ≡ a
-Rule B v (reads nm o buf) a = FindRule B v nm (TransferRule v o (length buf)) a
+Rule B v (reads nm o buf) a = FindRule B v nm (TransferRule B v o (length buf)) a
 Rule B v (lists s) a = ListRule B v s a
 Rule B v counts a = value (B * freeBlocks v) ≡ a
 
@@ -126,3 +138,16 @@ pub record GrantLaws (B : ℕ) (img : List ℕ) : Type 0 where
   -- which names requests take, and which format takes as the volume's
   pub name-allowed : (nm : List ℕ) → T (nameAllowed nm) ↔ NameRule nm
   pub label-allowed : (l : List ℕ) → T (labelAllowed l) ↔ LabelRule l
+
+-- ---- the number of blocks met
+pub record BlocksMetLaws : Type 0 where
+  -- to hold one of the positions, in plain facts
+  pub holds : (B : ℕ) (a : ℕ → ℕ) (o c b : ℕ) → T (holdsPart B a o c b) ↔ ((p : ℕ) × (o ≤ p) × (p < o + c) × (a p / B ≡ b))
+  -- of n blocks one after another, so many hold one; that of a file's blocks so many do is TransferLaws.meets in Effects.antt
+  pub counts : (B : ℕ) → 1 ≤ B → (o c n : ℕ) → o + c ≤ n * B → count (holdsPart B (λ p. p) o c) n ≡ blocksMet B o c
+  -- "0 for a count of 0", at an offset inside a block too, and for no other count
+  pub none : (B o c : ℕ) → (blocksMet B o c ≡ 0) ↔ (c ≡ 0)
+  -- "for n bytes, n at least 1, never more than (n + 510) div 512, plus 1", and for each block size; from the last byte of any block on it is just that
+  pub most-512 : (o n : ℕ) → 1 ≤ n → blocksMet 512 o n ≤ (n + 510) / 512 + 1
+  pub most : (B : ℕ) → 1 ≤ B → (o n : ℕ) → 1 ≤ n → blocksMet B o n ≤ (n + B - 2) / B + 1
+  pub reached : (B : ℕ) → 1 ≤ B → (k n : ℕ) → 1 ≤ n → blocksMet B (k * B + (B - 1)) n ≡ (n + B - 2) / B + 1

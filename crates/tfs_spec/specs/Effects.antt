@@ -10,8 +10,8 @@ use lib.Dec.{T, leb, ltb}
 use Rattle.lists.specs.Lists.{In, sum, table, joined, zeros, padTo, bytes4, words, part}
 use Rattle.tfs_spec.specs.Layout.{slots, need, blocks, block, mapBit, slot, sameName, inodeSize, inodeNumber, View, view, free, inode, name, size, number, content, Contents, contents, freeBlocks}
 use Rattle.tfs_spec.specs.Consistent.{Bytes, slotAt, File, Consistent}
-use Rattle.tfs_spec.specs.Requests.{Answer, done, value, refused, granted, Outcome, refuse, format, create, remove, read, write, Change, creates, removes, writes, perform, Operation, operate, afterAll}
-use Rattle.tfs_spec.specs.Answers.{NameRule, Stands, Fresh, Vacant}
+use Rattle.tfs_spec.specs.Requests.{Answer, done, value, transferred, refused, granted, Outcome, refuse, format, create, remove, blocksMet, read, write, Change, creates, removes, writes, perform, Operation, operate, afterAll}
+use Rattle.tfs_spec.specs.Answers.{NameRule, Stands, Fresh, Vacant, Meets}
 
 -- ---- the content of files, and what stands under a name
 pub record ContentLaws (B : ℕ) (img : List ℕ) : Type 0 where
@@ -123,9 +123,11 @@ pub record FormatLaws (B : ℕ) (img label : List ℕ) : Type 0 where
 
 -- ---- read and write by what stands under the name, and by nothing else
 -- what a transfer of len bytes from o on answers
-abbrev pub transferOn : Option (List ℕ) → ℕ → ℕ → Answer
-transferOn none o len = refused 13 0
-transferOn (some bytes) o len = cond (ltb (length bytes) o) (refused 15 0) (value (min len (length bytes - o)))
+abbrev pub transferOn : ℕ → Option (List ℕ) → ℕ → ℕ → Answer
+transferOn B none o len = refused 13 0
+transferOn B (some bytes) o len =
+    let c : ℕ = min len (length bytes - o) in
+    cond (ltb (length bytes) o) (refused 15 0) (transferred c (blocksMet B o c))
 
 -- what read leaves in the buffer: the bytes from o on, as many as it takes; "Read leaves the rest of the buffer"
 abbrev pub readOn : Option (List ℕ) → ℕ → List ℕ → List ℕ
@@ -133,14 +135,16 @@ readOn none o buf = buf
 readOn (some bytes) o buf = let got : List ℕ = take (length buf) (drop o bytes) in got ++ drop (length got) buf
 
 -- what read comes to, where c stands under its name
-abbrev pub readBy : Option (List ℕ) → List ℕ → ℕ → List ℕ → Outcome
-readBy c img o buf = record { answer = transferOn c o (length buf); image = img; buffer = readOn c o buf }
+abbrev pub readBy : ℕ → Option (List ℕ) → List ℕ → ℕ → List ℕ → Outcome
+readBy B c img o buf = record { answer = transferOn B c o (length buf); image = img; buffer = readOn c o buf }
 
 pub record TransferLaws (B : ℕ) (img : List ℕ) : Type 0 where
   pub misnamed : (nm : List ℕ) → (NameRule nm → ⊥) → (o : ℕ) (buf : List ℕ) → (read B img nm o buf ≡ refuse img buf 8 0) × (write B img nm o buf ≡ refuse img [] 8 0)
-  pub reads : (nm : List ℕ) → NameRule nm → (o : ℕ) (buf : List ℕ) → read B img nm o buf ≡ readBy (contents B img nm) img o buf
+  pub reads : (nm : List ℕ) → NameRule nm → (o : ℕ) (buf : List ℕ) → read B img nm o buf ≡ readBy B (contents B img nm) img o buf
+  -- the number beside the count is that of the blocks met
+  pub meets : (s o c : ℕ) → File B (view B img) s → o + c ≤ size (view B img) s → Meets B (view B img) s o c (blocksMet B o c)
   -- what a write leaves under names is in ChangeLaws, and that no other byte changes in Laws.antt
-  pub writes : (nm : List ℕ) → NameRule nm → (o : ℕ) (bs : List ℕ) → write B img nm o bs .answer ≡ transferOn (contents B img nm) o (length bs)
+  pub writes : (nm : List ℕ) → NameRule nm → (o : ℕ) (bs : List ℕ) → write B img nm o bs .answer ≡ transferOn B (contents B img nm) o (length bs)
 
 -- ---- what create, remove and write keep, and what no request looks at
 -- "The rest [of block 0] is ignored"; "Bits from N on are ignored and kept"; "Bytes 500..511 are ignored and kept"

@@ -63,11 +63,11 @@ pub record HistoryLaws (B : ℕ) (img : List ℕ) : Type 0 where
   -- what stands under a name is made by granted requests by that name and by granted formats; no other request changes it
   pub stands : (xs : List Operation) (nm : List ℕ) → contents B (afterAll B img xs) nm ≡ effectOnAll B nm img xs (contents B img nm)
   -- so reads after them give what these made of it, and no byte of a file that does not stand under it then
-  pub reads : (xs : List Operation) → Consistent B (afterAll B img xs) → (nm : List ℕ) → NameRule nm → (o : ℕ) (buf : List ℕ) → read B (afterAll B img xs) nm o buf ≡ readBy (effectOnAll B nm img xs (contents B img nm)) (afterAll B img xs) o buf
+  pub reads : (xs : List Operation) → Consistent B (afterAll B img xs) → (nm : List ℕ) → NameRule nm → (o : ℕ) (buf : List ℕ) → read B (afterAll B img xs) nm o buf ≡ readBy B (effectOnAll B nm img xs (contents B img nm)) (afterAll B img xs) o buf
   -- after a granted remove, or a granted format, every read and write of the name is refused 13, until a create of it is granted
   pub ended : (nm : List ℕ) → NameRule nm → (x : Operation) → EndsName B nm img x → (xs : List Operation) → Never B (CreatesName B nm) (operate B img x .image) xs → (o : ℕ) (buf : List ℕ) → (read B (afterAll B (operate B img x .image) xs) nm o buf ≡ refuse (afterAll B (operate B img x .image) xs) buf 13 0) × (write B (afterAll B (operate B img x .image) xs) nm o buf ≡ refuse (afterAll B (operate B img x .image) xs) [] 13 0)
   -- and then, until a remove of it or a format is granted, reads give zeros and what writes by that name put there since
-  pub created : (nm : List ℕ) (z : ℕ) → T (granted (create B img nm z .answer)) → (xs : List Operation) → Never B (EndsName B nm) (create B img nm z .image) xs → (o : ℕ) (buf : List ℕ) → read B (afterAll B (create B img nm z .image) xs) nm o buf ≡ readBy (some (putByAll B nm (create B img nm z .image) xs (zeros z))) (afterAll B (create B img nm z .image) xs) o buf
+  pub created : (nm : List ℕ) (z : ℕ) → T (granted (create B img nm z .answer)) → (xs : List Operation) → Never B (EndsName B nm) (create B img nm z .image) xs → (o : ℕ) (buf : List ℕ) → read B (afterAll B (create B img nm z .image) xs) nm o buf ≡ readBy B (some (putByAll B nm (create B img nm z .image) xs (zeros z))) (afterAll B (create B img nm z .image) xs) o buf
 
 -- ---- inode numbers: what create answers and list shows
 -- list shows the number h in no slot

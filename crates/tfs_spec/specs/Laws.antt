@@ -10,8 +10,8 @@ use lib.Dec.{T, leb, ltb}
 use Rattle.lists.specs.Lists.{table, joined, zeros}
 use Rattle.tfs_spec.specs.Layout.{slots, block, slot, sameName, view, name, size, place, contents, BlockSize}
 use Rattle.tfs_spec.specs.Consistent.{File, Consistent, Bytes, LayoutLaws, NameLaws, NumberLaws, CountLaws}
-use Rattle.tfs_spec.specs.Requests.{Answer, done, value, granted, countOf, Outcome, create, remove, write, Change, perform}
-use Rattle.tfs_spec.specs.Answers.{CheckLaws, RefusalLaws, LabelRule, Stands, GrantLaws}
+use Rattle.tfs_spec.specs.Requests.{Answer, done, transferred, granted, countOf, Outcome, create, remove, write, Change, perform}
+use Rattle.tfs_spec.specs.Answers.{CheckLaws, RefusalLaws, LabelRule, Stands, GrantLaws, BlocksMetLaws}
 use Rattle.tfs_spec.specs.Effects.{nameOn, ContentLaws, ChangeLaws, TouchLaws, FormatLaws, TransferLaws, SameSlot, KeptLaws, ByteLaws, RoomLaws}
 use Rattle.tfs_spec.specs.Histories.{HistoryLaws, InodeLaws, SlotLaws}
 use Rattle.tfs_spec.specs.Traces.{TraceLaws}
@@ -100,7 +100,7 @@ pub record BothOrders (B : ℕ) (img : List ℕ) (a b : Change) : Type 0 where
 pub record RequestLaws (B : ℕ) (img : List ℕ) : Type 0 where
   pub writes : (ws : List Write) → WritesLaw B img ws
   -- what it is to cover in it: granted with the count c, to that name, at an offset from which c bytes reach p
-  pub covers : (w : Write) (nm : List ℕ) (p : ℕ) → T (coversAt B img w nm p) ↔ (T (sameName (w .name) nm) × (c : ℕ) × (request B img w .answer ≡ value c) × (w .offset ≤ p) × (p < w .offset + c))
+  pub covers : (w : Write) (nm : List ℕ) (p : ℕ) → T (coversAt B img w nm p) ↔ (T (sameName (w .name) nm) × (c : ℕ) × (m : ℕ) × (request B img w .answer ≡ transferred c m) × (w .offset ≤ p) × (p < w .offset + c))
   pub pieces : (nm : List ℕ) (o : ℕ) (bs : List (List ℕ)) → PiecesLaw B img nm o bs
   pub back : (nm : List ℕ) (z : ℕ) → T (granted (create B img nm z .answer)) → (s : ℕ) × BackLaw B img nm z s
   -- 4. "Two requests out of create, remove and write, on different names and granted in both orders, end with the same names, sizes and contents in either order"
@@ -108,10 +108,11 @@ pub record RequestLaws (B : ℕ) (img : List ℕ) : Type 0 where
 
 -- ---- all statements, each with its premises; tfs_proofs/specs/Proved.antt proves each. The starred numbers are in starred/specs/Starred.antt
 pub record Statements : Type 0 where
-  -- of numbers, names, maps, traces, and the numbers in the replay program's line
+  -- of numbers, names, maps, the blocks that a transfer meets, traces, and the numbers in the replay program's line
   pub number-laws : NumberLaws
   pub name-laws : NameLaws
   pub count-laws : CountLaws
+  pub blocks-met-laws : BlocksMetLaws
   pub trace-laws : TraceLaws
   pub line-laws : LineLaws
   -- of every image

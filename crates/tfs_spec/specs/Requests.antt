@@ -1,9 +1,9 @@
 -- The requests: for every input the answer, the image after and the buffer after.
 use mathlib.Core.Bool.{Bool, true, false, not, cond}
-use Prim.Native.Nat.{ℕ, zero, suc, _+_, _-_, _*_, min}
+use Prim.Native.Nat.{ℕ, zero, suc, _+_, _-_, _*_, _/_, min}
 use mathlib.Core.List.{List, [], _∷_, _++_}
 use lib.ListN.{length, getD, take, drop}
-use lib.Dec.{ltb}
+use lib.Dec.{ltb, eqb}
 use Rattle.lists.specs.Lists.{zeros, padTo, table, bytes4, storeAt}
 use Rattle.tfs_spec.specs.Layout.{slots, maxSize, need, setBlock, magic, mapBit, setBits, setSlot, entry, inodeBlock, labelAllowed, nameAllowed, View, view, free, inode, name, size, slotOf, freeSlot, place, freeBlocks}
 use Rattle.tfs_spec.specs.Check.{Verdict, consistent, broken, tooShort, check, fileClaims}
@@ -12,8 +12,10 @@ use Rattle.tfs_spec.specs.Check.{Verdict, consistent, broken, tooShort, 
 pub data Answer : Type 0 where
   -- granted, with no result
   done : Answer
-  -- granted: an inode number, a count or free bytes
+  -- granted, of create and free bytes: an inode number, free bytes; of writing a record its length
   value : ℕ → Answer
+  -- granted, of read and write: the count, and how many content blocks their range meets
+  transferred : ℕ → ℕ → Answer
   -- granted, of list: a free slot; or name, inode number and size
   unused : Answer
   file : List ℕ → ℕ → ℕ → Answer
@@ -23,6 +25,7 @@ pub data Answer : Type 0 where
 abbrev pub granted : Answer → Bool
 granted done = true
 granted (value x) = true
+granted (transferred c m) = true
 granted unused = true
 granted (file nm i z) = true
 granted (refused num p) = false
@@ -31,14 +34,16 @@ granted (refused num p) = false
 abbrev pub refusalOf : Answer → ℕ
 refusalOf done = 0
 refusalOf (value x) = 0
+refusalOf (transferred c m) = 0
 refusalOf unused = 0
 refusalOf (file nm i z) = 0
 refusalOf (refused num p) = num
 
--- the count of an answer: a refusal counts 0
+-- the count or value of an answer: a refusal counts 0
 abbrev pub countOf : Answer → ℕ
 countOf done = 0
-countOf (value c) = c
+countOf (value x) = x
+countOf (transferred c m) = c
 countOf unused = 0
 countOf (file nm i z) = 0
 countOf (refused num p) = 0
@@ -178,9 +183,15 @@ remove B img nm = checked (check B img) (refuse img []) (removeStep B img nm)
 unfoldable pub counted : View → ℕ → ℕ → ℕ → ℕ
 counted v s o len = min len (size v s - o)
 
+-- "how many distinct content blocks their range meets": from the block of the first of c positions, which is o, to that of the last; "0 for a count of 0"
+unfoldable pub blocksMet : ℕ → ℕ → ℕ → ℕ
+blocksMet B o c = cond (eqb c 0) 0 ((o + c - 1) / B - o / B + 1)
+
 -- of the file in slot s: "offset greater than size"
-unfoldable pub transferAnswer : View → ℕ → ℕ → ℕ → Answer
-transferAnswer v s o len = cond (ltb (size v s) o) (refused 15 0) (value (counted v s o len))
+unfoldable pub transferAnswer : ℕ → View → ℕ → ℕ → ℕ → Answer
+transferAnswer B v s o len =
+    let c : ℕ = counted v s o len in
+    cond (ltb (size v s) o) (refused 15 0) (transferred c (blocksMet B o c))
 
 -- "Read leaves the rest of the buffer"
 unfoldable pub readBuffer : ℕ → View → List ℕ → ℕ → ℕ → List ℕ → List ℕ
@@ -191,7 +202,7 @@ readBuffer B v img s o buf =
 abbrev pub readFile : ℕ → List ℕ → ℕ → ℕ → List ℕ → Outcome
 readFile B img s o buf =
     let v : View = view B img in
-    let a : Answer = transferAnswer v s o (length buf) in
+    let a : Answer = transferAnswer B v s o (length buf) in
     record { answer = a; image = img; buffer = cond (granted a) (readBuffer B v img s o buf) buf }
 
 -- "Merge open with read": "takes the answer of the lookup apart before anything is read"
@@ -208,7 +219,7 @@ writeImage B v img s o buf = storeAt (place B v s) img o (take (counted v s o (l
 abbrev pub writeFile : ℕ → List ℕ → ℕ → ℕ → List ℕ → Outcome
 writeFile B img s o buf =
     let v : View = view B img in
-    let a : Answer = transferAnswer v s o (length buf) in
+    let a : Answer = transferAnswer B v s o (length buf) in
     record { answer = a; image = cond (granted a) (writeImage B v img s o buf) img; buffer = [] }
 
 -- "and open with write"

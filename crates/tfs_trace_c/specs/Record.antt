@@ -6,7 +6,7 @@ use mathlib.Core.List.{List}
 use lib.ListN.{length}
 use lib.Dec.{T, eqb, leb}
 use Rattle.lists.specs.Lists.{part}
-use Rattle.tfs_spec.specs.Requests.{Answer, done, value, unused, file, refused}
+use Rattle.tfs_spec.specs.Requests.{Answer, refusalOf, countOf}
 use Rattle.tfs_spec.specs.Traces as rules
 use Rattle.tfs_spec.specs.Replays.{Replayed}
 use Rattle.tfs_spec.specs.Replays as replays
@@ -147,11 +147,7 @@ abbrev pub written : ℕ → ℕ → TfsWritten
 written num n = record { refusal = num; length = n }
 
 unfoldable pub writtenOf : Answer → TfsWritten
-writtenOf done = written 0 0
-writtenOf (value n) = written 0 n
-writtenOf unused = written 0 0
-writtenOf (file nm i z) = written 0 0
-writtenOf (refused num p) = written num 0
+writtenOf a = written (refusalOf a) (countOf a)
 
 -- ---- replay
 abbrev pub replayed : ℕ → ℕ → ℕ → ℕ → TfsReplayed

@@ -11,7 +11,7 @@ use Rattle.list_laws.specs.Table.{length-table}
 use Rattle.tfs_spec.specs.Layout.{block, view, inode}
 use Rattle.tfs_spec.specs.Check.{consistent, check}
 use Rattle.tfs_spec.specs.Consistent.{File}
-use Rattle.tfs_spec.specs.Requests.{Answer, refused, refusalOf, granted, value, transferAnswer, Outcome, readFile}
+use Rattle.tfs_spec.specs.Requests.{Answer, refused, refusalOf, granted, transferred, blocksMet, transferAnswer, Outcome, readFile}
 use Rattle.tfs_spec.specs.Replays.{bytesRead}
 use Rattle.tfs_runs.specs.Place.{at}
 use Rattle.tfs_steps.specs.Ready.{contentList}
@@ -40,7 +40,7 @@ abbrev pub Compares : Outcome → List ℕ → Compared → Type 0
 Compares o bytes r = (comparedRefusal r ≡ refusalOf (o .answer)) × (comparedSame r ≡ (granted (o .answer) && sameList bytes (bytesRead o))) × ComparedFits r
 
 -- a refusal of the transfer
-pub compare-refused : (img : List ℕ) (s o len num : ℕ) (bytes : List ℕ) → refused num 0 ≡ transferAnswer (view 512 img) s o len → 8 ≤ num → Compares (readFile 512 img s o (zeros len)) bytes (Refused num)
+pub compare-refused : (img : List ℕ) (s o len num : ℕ) (bytes : List ℕ) → refused num 0 ≡ transferAnswer 512 (view 512 img) s o len → 8 ≤ num → Compares (readFile 512 img s o (zeros len)) bytes (Refused num)
 compare-refused img s o len num bytes e h = rw (length-replicate, ← e) (refl, refl, h)
 
 -- the read puts c bytes into the buffer, out of the blocks bs
@@ -51,7 +51,7 @@ module _ (img : List ℕ) (passed : check 512 img ≡ consistent) (s : ℕ) (f :
   abbrev file : ℕ → ℕ
   file p = getD img (at bs p) 0
 
-  answer-is : readFile 512 img s o (zeros len) .answer ≡ value c
+  answer-is : readFile 512 img s o (zeros len) .answer ≡ transferred c (blocksMet 512 o c)
   answer-is = rw length-replicate (allowed a)
 
   gives : bytesRead (readFile 512 img s o (zeros len)) ≡ table file o c

@@ -1,2 +1,3 @@
+pub mod Told
 pub mod Transfer
 pub mod Compare

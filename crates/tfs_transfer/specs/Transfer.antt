@@ -10,7 +10,7 @@ use Rattle.lists.specs.Lists.{table, storeAt}
 use Rattle.tfs_spec.specs.Layout.{need, block, inodeSize, View, view, inode, size}
 use Rattle.tfs_spec.specs.Check.{consistent, check}
 use Rattle.tfs_spec.specs.Consistent.{File}
-use Rattle.tfs_spec.specs.Requests.{Answer, refused, value, counted, transferAnswer, readBuffer, writeImage}
+use Rattle.tfs_spec.specs.Requests.{Answer, refused, transferred, counted, blocksMet, transferAnswer, readBuffer, writeImage}
 use Rattle.tfs_inode.specs.Claims.{claimList, length-claims}
 use Rattle.tfs_runs.specs.Place.{at, Inside}
 use Rattle.tfs_transfer.specs.declared.Reach.{Reach}
@@ -24,7 +24,7 @@ pub record Moves (v : View) (s o len c : ℕ) : Type 0 where
 
 -- the file's size is z
 module _ (v : View) (s z o len : ℕ) (e : z ≡ size v s) where
-  pub beyond : z < o → refused 15 0 ≡ transferAnswer v s o len
+  pub beyond : z < o → refused 15 0 ≡ transferAnswer 512 v s o len
   unfolding transferAnswer
   beyond g = rw (← e, lt-ltb z o g)
 
@@ -39,7 +39,7 @@ module _ {v : View} {s o len c : ℕ} (a : Moves v s o len c) where
   reach : o + c ≤ size v s
   reach = omega (arith, a .starts, a .count)
 
-  pub allowed : transferAnswer v s o len ≡ value c
+  pub allowed : transferAnswer 512 v s o len ≡ transferred c (blocksMet 512 o c)
   unfolding transferAnswer
   allowed = rw (le-ltb (size v s) o (a .starts), counted-is)
 
@@ -60,6 +60,10 @@ module _ (img : List ℕ) (passed : check 512 img ≡ consistent) (s : ℕ) (f :
       rw e
       (content-inside img passed s f, omega (arith, a .count), within img passed s f o c (reach a), omega (arith, length-content-list img passed s f, need-few img passed s f))
 
+  -- so few that a 32-bit number tells them
+  pub few-bytes : c < 4294967296
+  few-bytes = let ready = runs-ready in omega (arith, ready .2, ready .3)
+
   pub read-all : (buf last : List ℕ) → len ≡ length buf → last ≡ table (λ p. getD img (at bs p) 0) o c ++ drop c buf → last ≡ readBuffer 512 (view 512 img) img s o buf
   unfolding readBuffer
   read-all buf last w r = rw (r, e, read-is img passed s f o c (reach a), ← w, counted-is a)
@@ -70,10 +74,10 @@ module _ (img : List ℕ) (passed : check 512 img ≡ consistent) (s : ℕ) (f :
       let short : length (take c buf) ≡ c = length-take-le c buf (omega (arith, a .count)) in
       rw (r, e, write-is img passed s f o (take c buf) (omega (arith, short, reach a)), ← w, counted-is a)
 
--- ---- what the code finds of a transfer
-abbrev pub reachTold : Reach → Answer
-reachTold (Bytes c k) = value c
-reachTold (Refused num) = refused num 0
+-- ---- what the code finds of a transfer from o on
+abbrev pub reachTold : ℕ → Reach → Answer
+reachTold o (Bytes c k) = transferred c (blocksMet 512 o c)
+reachTold o (Refused num) = refused num 0
 
 abbrev pub Reaches : List ℕ → ℕ → ℕ → ℕ → List ℕ → Reach → Type 0
 Reaches img s o len list (Bytes c k) = Moves (view 512 img) s o len c × Listed img s k list

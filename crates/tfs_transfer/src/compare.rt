@@ -29,7 +29,7 @@ fn compare_file(image: &[u8], s: usize, offset: u32, len: u32, bytes: &[u8]) -> 
     match reach_of(image, s, offset, len as usize, &mut list) {
         Reach::Refused(n) => Compared::Refused(n),
         Reach::Bytes(count, k) => {
-            if bytes.len() != count as usize {
+            if bytes.len() != count {
                 return Compared::Differs;
             }
             if same_runs(image, &list[1..k], offset as usize, bytes) {

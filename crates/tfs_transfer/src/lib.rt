@@ -7,7 +7,7 @@ ghost use Rattle.tfs_spec.specs.Layout.{view};
 ghost use Rattle.tfs_spec.specs.Check.{consistent, check};
 ghost use Rattle.tfs_spec.specs.Consistent.{File};
 ghost use Rattle.tfs_spec.specs.Requests.{transferAnswer, readFile, readStep, writeFile, writeStep};
-ghost use Rattle.tfs_steps.specs.Told.{stepTold, StepFits};
+ghost use Rattle.tfs_transfer.specs.Told.{movedTold, MovedFits};
 ghost use Rattle.tfs_transfer.specs.Transfer.{reachTold, Reaches};
 use tfs_dir::lookup::Lookup;
 use tfs_dir::lookup::look_up;
@@ -15,13 +15,19 @@ use tfs_dir::volume::inode_at;
 use tfs_inode::volume::file_blocks;
 use tfs_inode::volume::file_size;
 use tfs_layout::FILE_BLOCKS;
+use tfs_layout::blocks_met;
 use tfs_runs::read::read_runs;
 use tfs_runs::write::write_runs;
-use tfs_steps::Step;
+
+// What read and write answer once the check is passed: how many bytes are moved and how many blocks they lie in, or the refusal's number.
+pub enum Moved {
+    Granted { count: u32, blocks: u32 },
+    Refused(u32),
+}
 
 // How far a transfer reaches: how many bytes it moves and how many blocks the file has with its inode's, or the refusal's number.
 enum Reach {
-    Bytes(u32, usize),
+    Bytes(usize, usize),
     Refused(u32),
 }
 
@@ -37,7 +43,7 @@ fn count_of(len: usize, size: u32, offset: u32) -> usize
 // How far a transfer with a buffer of len bytes reaches in the file in slot s, whose blocks go to the front of list.
 fn reach_of(image: &[u8], s: usize, offset: u32, len: usize, list: &mut [u32; FILE_BLOCKS]) -> Reach
     requires { ⌜ (check 512 (now image) ≡ consistent) × File 512 (view 512 (now image)) s ⌝ }
-    ensures { λ r. ⌜ (reachTold r ≡ transferAnswer (view 512 (now (image .entry))) s offset len) × Reaches (now (image .entry)) s offset len (now (list .exit)) r ⌝ }
+    ensures { λ r. ⌜ (reachTold offset r ≡ transferAnswer 512 (view 512 (now (image .entry))) s offset len) × Reaches (now (image .entry)) s offset len (now (list .exit)) r ⌝ }
 {
     let b = inode_at(image, s) as usize;
     let size = file_size(image, b);
@@ -46,59 +52,65 @@ fn reach_of(image: &[u8], s: usize, offset: u32, len: usize, list: &mut [u32; FI
     }
     let count = count_of(len, size, offset);
     let k = file_blocks(image, b, list);
-    Reach::Bytes(count as u32, k)
+    Reach::Bytes(count, k)
 }
 
 // Reads from the offset on of the file in slot s into the buffer; the rest of the buffer stays.
-fn read_file(image: &[u8], s: usize, offset: u32, buf: &mut [u8]) -> Step
+fn read_file(image: &[u8], s: usize, offset: u32, buf: &mut [u8]) -> Moved
     requires { ⌜ (check 512 (now image) ≡ consistent) × File 512 (view 512 (now image)) s ⌝ }
-    ensures { λ r. ⌜ (stepTold r ≡ readFile 512 (now (image .entry)) s offset (now (buf .entry)) .answer) × (now (buf .exit) ≡ readFile 512 (now (image .entry)) s offset (now (buf .entry)) .buffer) × StepFits r ⌝ }
+    ensures { λ r. ⌜ (movedTold r ≡ readFile 512 (now (image .entry)) s offset (now (buf .entry)) .answer) × (now (buf .exit) ≡ readFile 512 (now (image .entry)) s offset (now (buf .entry)) .buffer) × MovedFits r ⌝ }
 {
     let mut list = [0u32; FILE_BLOCKS];
-    match reach_of(image, s, offset, buf.len(), &mut list) {
-        Reach::Refused(n) => Step::Refused(n),
+    let len = buf.len();
+    match reach_of(image, s, offset, len, &mut list) {
+        Reach::Refused(n) => Moved::Refused(n),
         Reach::Bytes(count, k) => {
-            let bytes = count as usize;
-            read_runs(image, &list[1..k], offset as usize, buf, bytes);
-            Step::Granted(count)
+            read_runs(image, &list[1..k], offset as usize, buf, count);
+            Moved::Granted {
+                count: count as u32,
+                blocks: blocks_met(offset, count as u32),
+            }
         }
     }
 }
 
 // The same of the file of this name, or the lookup's refusal.
-pub fn read_step(image: &[u8], name: &[u8], offset: u32, buf: &mut [u8]) -> Step
+pub fn read_step(image: &[u8], name: &[u8], offset: u32, buf: &mut [u8]) -> Moved
     requires { ⌜ check 512 (now image) ≡ consistent ⌝ }
-    ensures { λ r. ⌜ (stepTold r ≡ readStep 512 (now (image .entry)) (now (name .entry)) offset (now (buf .entry)) .answer) × (now (buf .exit) ≡ readStep 512 (now (image .entry)) (now (name .entry)) offset (now (buf .entry)) .buffer) × StepFits r ⌝ }
+    ensures { λ r. ⌜ (movedTold r ≡ readStep 512 (now (image .entry)) (now (name .entry)) offset (now (buf .entry)) .answer) × (now (buf .exit) ≡ readStep 512 (now (image .entry)) (now (name .entry)) offset (now (buf .entry)) .buffer) × MovedFits r ⌝ }
 {
     match look_up(image, name) {
-        Lookup::Refused(n) => Step::Refused(n),
+        Lookup::Refused(n) => Moved::Refused(n),
         Lookup::InSlot(s) => read_file(image, s, offset, buf),
     }
 }
 
 // Writes the buffer into the file in slot s from the offset on, as far as the file reaches.
-fn write_file(image: &mut [u8], s: usize, offset: u32, buf: &[u8]) -> Step
+fn write_file(image: &mut [u8], s: usize, offset: u32, buf: &[u8]) -> Moved
     requires { ⌜ (check 512 (now image) ≡ consistent) × File 512 (view 512 (now image)) s ⌝ }
-    ensures { λ r. ⌜ (stepTold r ≡ writeFile 512 (now (image .entry)) s offset (now (buf .entry)) .answer) × (now (image .exit) ≡ writeFile 512 (now (image .entry)) s offset (now (buf .entry)) .image) × StepFits r ⌝ }
+    ensures { λ r. ⌜ (movedTold r ≡ writeFile 512 (now (image .entry)) s offset (now (buf .entry)) .answer) × (now (image .exit) ≡ writeFile 512 (now (image .entry)) s offset (now (buf .entry)) .image) × MovedFits r ⌝ }
 {
     let mut list = [0u32; FILE_BLOCKS];
-    match reach_of(image, s, offset, buf.len(), &mut list) {
-        Reach::Refused(n) => Step::Refused(n),
+    let len = buf.len();
+    match reach_of(image, s, offset, len, &mut list) {
+        Reach::Refused(n) => Moved::Refused(n),
         Reach::Bytes(moved, k) => {
-            let bytes = moved as usize;
-            write_runs(image, &list[1..k], offset as usize, buf, bytes);
-            Step::Granted(moved)
+            write_runs(image, &list[1..k], offset as usize, buf, moved);
+            Moved::Granted {
+                count: moved as u32,
+                blocks: blocks_met(offset, moved as u32),
+            }
         }
     }
 }
 
 // The same of the file of this name, or the lookup's refusal.
-pub fn write_step(image: &mut [u8], name: &[u8], offset: u32, buf: &[u8]) -> Step
+pub fn write_step(image: &mut [u8], name: &[u8], offset: u32, buf: &[u8]) -> Moved
     requires { ⌜ check 512 (now image) ≡ consistent ⌝ }
-    ensures { λ r. ⌜ (stepTold r ≡ writeStep 512 (now (image .entry)) (now (name .entry)) offset (now (buf .entry)) .answer) × (now (image .exit) ≡ writeStep 512 (now (image .entry)) (now (name .entry)) offset (now (buf .entry)) .image) × StepFits r ⌝ }
+    ensures { λ r. ⌜ (movedTold r ≡ writeStep 512 (now (image .entry)) (now (name .entry)) offset (now (buf .entry)) .answer) × (now (image .exit) ≡ writeStep 512 (now (image .entry)) (now (name .entry)) offset (now (buf .entry)) .image) × MovedFits r ⌝ }
 {
     match look_up(image, name) {
-        Lookup::Refused(num) => Step::Refused(num),
+        Lookup::Refused(num) => Moved::Refused(num),
         Lookup::InSlot(s) => write_file(image, s, offset, buf),
     }
 }

@@ -5,6 +5,7 @@ use tfs::Answer;
 use tfs::CheckAnswer;
 use tfs::Done;
 use tfs::Fault;
+use tfs::TransferAnswer;
 
 fn text(words: &[u8]) {
     io::write_all(STDOUT_FILENO, words);
@@ -61,6 +62,24 @@ fn answer(what: &[u8], a: Answer) {
     text(b"\n");
 }
 
+// The count of bytes, and the blocks that they lie in.
+fn transfer(what: &[u8], t: TransferAnswer) {
+    text(what);
+    match t {
+        TransferAnswer::Granted(moved) => {
+            number(moved.count);
+            text(b" bytes, content blocks: ");
+            number(moved.blocks);
+        }
+        TransferAnswer::Refused(num) => {
+            text(b"refused ");
+            number(num);
+        }
+        TransferAnswer::Inconsistent(f) => fault(f),
+    }
+    text(b"\n");
+}
+
 fn checked(c: CheckAnswer) {
     text(b"check: ");
     match c {
@@ -72,27 +91,27 @@ fn checked(c: CheckAnswer) {
 
 // Writes into the file and reads it back.
 fn use_file(image: &mut [u8; 65536]) {
-    answer(
-        b"write 5 bytes at 10: ",
-        tfs::write(image, b"TIMING", 10, b"hello"),
+    transfer(
+        b"write 5 bytes at 510: ",
+        tfs::write(image, b"TIMING", 510, b"hello"),
     );
     let mut back = [0u8; 5];
-    answer(
-        b"read 5 bytes at 10: ",
-        tfs::read(image, b"TIMING", 10, &mut back),
+    transfer(
+        b"read 5 bytes at 510: ",
+        tfs::read(image, b"TIMING", 510, &mut back),
     );
     text(b"read back: ");
     text(&back);
     text(b"\n");
-    answer(
+    transfer(
         b"write at the end: ",
         tfs::write(image, b"TIMING", 1000, b"hello"),
     );
-    answer(
+    transfer(
         b"write past the end: ",
         tfs::write(image, b"TIMING", 1001, b"hello"),
     );
-    answer(
+    transfer(
         b"write to a name that does not stand: ",
         tfs::write(image, b"TIMER", 1001, b"hello"),
     );
@@ -105,7 +124,7 @@ fn damage(image: &mut [u8; 65536]) {
     image[515] = 7;
     checked(tfs::check(image));
     let mut back = [0u8; 5];
-    answer(b"read TIMING: ", tfs::read(image, b"TIMING", 10, &mut back));
+    transfer(b"read TIMING: ", tfs::read(image, b"TIMING", 10, &mut back));
 }
 
 fn main() {

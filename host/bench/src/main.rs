@@ -5,16 +5,18 @@
 //! ```
 //!
 //! Each time is the best of R rounds (2000 unless given, fewer where one lasts long), in which the proved request, the
-//! reference and what else is timed beside them take turns; of free bytes less the check it is the median. Nothing passes
-//! or fails by time.
+//! reference and what else is timed beside them take turns; of free bytes and of few bytes less the check it is the median.
+//! Nothing passes or fails by time.
 
 #![deny(unsafe_code)]
 
+mod less_check;
 mod linked;
 mod on_romfs;
 mod on_room;
 mod on_tfs;
 mod on_traces;
+mod on_transfers;
 mod race;
 mod table;
 mod volumes;
@@ -35,6 +37,9 @@ fn main() -> ExitCode {
     on_tfs::requests(rounds);
     on_tfs::short_transfers(rounds);
     on_tfs::transfers(rounds);
+    on_transfers::few_bytes(rounds);
+    #[cfg(before)]
+    on_transfers::beside_before(rounds);
     on_room::free_bytes(rounds);
     on_tfs::growth(rounds);
     on_traces::replays(rounds);

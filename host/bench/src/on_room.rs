@@ -1,21 +1,11 @@
 //! Times of counting the room of a volume.
 
-use std::hint::black_box;
-
 use reference::tfs::{BLOCK_SIZE, LARGEST_FILE, MOST_BLOCKS};
 
+use crate::less_check::{times, Way};
 use crate::linked;
-use crate::race::Race;
 use crate::table::{ns, ratio, Table};
 use crate::volumes::{with_files, with_files_anywhere};
-
-/// A way to the free bytes of a volume.
-struct Way {
-    name: &'static str,
-    free_bytes: fn(&[u8]) -> u32,
-    /// The check that has a part in it, if one has.
-    check: Option<fn(&[u8])>,
-}
 
 /// The way of the requests of a module.
 macro_rules! requests {
@@ -23,7 +13,7 @@ macro_rules! requests {
         use $tfs as tfs;
         Way {
             name: $name,
-            free_bytes: |image| tfs::free_bytes(image).expect("free bytes"),
+            request: Box::new(|image| tfs::free_bytes(image).expect("free bytes")),
             check: Some(|image| tfs::check(image).expect("check")),
         }
     }};
@@ -32,13 +22,16 @@ macro_rules! requests {
 /// All ways, the proved one first.
 fn ways() -> Vec<Way> {
     let ways = [
+        #[cfg(not(before))]
         requests!("proved", proved::tfs),
+        #[cfg(before)]
+        requests!("proved", linked::now),
         #[cfg(before)]
         requests!("before", linked::before),
         requests!("reference", reference::tfs),
         Way {
             name: "C",
-            free_bytes: free_bytes_in_c,
+            request: Box::new(|image| free_bytes_in_c(image)),
             check: None,
         },
     ];
@@ -67,10 +60,11 @@ pub fn free_bytes(rounds: usize) {
         ("full, solid", &full, solid),
         ("full, scattered", &full, scattered),
     ];
-    let ways = ways();
+    let mut ways = ways();
     let mut table = Table::new(&heads(&ways));
     for (title, sizes, make) in rows {
-        let times = less_check(rounds, &ways, |seed| make(sizes, seed));
+        let times = times(rounds, &mut ways, |seed| make(sizes, seed));
+        let times: Vec<f64> = times.iter().map(|times| times.less_check).collect();
         let ratios = times[1..].iter().map(|other| ratio(times[0], *other));
         let cells = times.iter().map(|time| ns(*time)).chain(ratios);
         table.row(title.to_owned(), cells);
@@ -84,48 +78,4 @@ fn heads(ways: &[Way]) -> String {
         .iter()
         .map(|way| format!(" | proved / {}", way.name));
     "volume".to_owned() + &times.chain(ratios).collect::<String>()
-}
-
-const PAGE: usize = 4096;
-
-/// Where in a page a volume begins, each another one: what a check takes depends on both by more than a count lasts.
-const PLACES: [usize; 8] = [0, 520, 1040, 1560, 2080, 2600, 3120, 3640];
-
-/// The times of all ways, each less that of its check: the median over all rounds on all volumes.
-fn less_check(rounds: usize, ways: &[Way], make: impl Fn(u64) -> Vec<u8>) -> Vec<f64> {
-    let mut space = vec![0; MOST_BLOCKS * BLOCK_SIZE + 2 * PAGE];
-    let page = space.as_ptr().align_offset(PAGE);
-    let mut times = vec![Vec::new(); ways.len()];
-    for (seed, place) in (1..).zip(PLACES) {
-        let image = &mut space[page + place..][..MOST_BLOCKS * BLOCK_SIZE];
-        image.copy_from_slice(&make(seed));
-        assert_same_answers(ways, image);
-        for round in timed(rounds.div_ceil(PLACES.len()), ways, image) {
-            for (times, [whole, check]) in times.iter_mut().zip(round.as_chunks().0) {
-                times.push(whole - check);
-            }
-        }
-    }
-    times.into_iter().map(median).collect()
-}
-
-fn assert_same_answers(ways: &[Way], image: &[u8]) {
-    let answers: Vec<u32> = ways.iter().map(|way| (way.free_bytes)(image)).collect();
-    let same = answers.iter().all(|answer| *answer == answers[0]);
-    assert!(same, "{answers:?}");
-}
-
-/// The time of each way and of its check, which is next to nothing where there is none, in every round.
-fn timed(rounds: usize, ways: &[Way], image: &[u8]) -> Vec<Vec<f64>> {
-    let mut race = Race::new(rounds);
-    for way in ways {
-        race = race.lane(|| (way.free_bytes)(black_box(image)));
-        race = race.lane(|| way.check.map(|check| check(black_box(image))));
-    }
-    race.run_rounds()
-}
-
-fn median(mut times: Vec<f64>) -> f64 {
-    times.sort_by(f64::total_cmp);
-    times[times.len() / 2]
 }

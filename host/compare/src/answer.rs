@@ -30,4 +30,9 @@ impl Answer {
     pub fn value(&self) -> u32 {
         self.words[2] as u32
     }
+
+    /// Gives the word behind that, which for a read or a write is the number of blocks.
+    pub fn blocks(&self) -> u32 {
+        self.words[3] as u32
+    }
 }

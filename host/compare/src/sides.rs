@@ -18,29 +18,35 @@ pub fn proved(request: Request, arguments: &Arguments, lents: &mut Lents) -> Ans
     let name = lents.name.bytes();
     let buffer = lents.buffer.bytes_mut();
     match request {
-        Request::TfsCheck => value_answer(c::tfs::check(image)),
-        Request::TfsFormat => value_answer(c::tfs::format(image, name)),
-        Request::TfsCreate => value_answer(c::tfs::create(image, name, number)),
-        Request::TfsRemove => value_answer(c::tfs::remove(image, name)),
-        Request::TfsRead => value_answer(c::tfs::read(image, name, number, buffer)),
-        Request::TfsWrite => value_answer(c::tfs::write(image, name, number, buffer)),
+        Request::TfsCheck => tfs_answer(c::tfs::check(image)),
+        Request::TfsFormat => tfs_answer(c::tfs::format(image, name)),
+        Request::TfsCreate => tfs_answer(c::tfs::create(image, name, number)),
+        Request::TfsRemove => tfs_answer(c::tfs::remove(image, name)),
+        Request::TfsRead => tfs_answer(c::tfs::read(image, name, number, buffer)),
+        Request::TfsWrite => tfs_answer(c::tfs::write(image, name, number, buffer)),
         Request::TfsList => slot_answer(c::tfs::list(image, number)),
-        Request::TfsFree => value_answer(c::tfs::free_bytes(image)),
+        Request::TfsFree => tfs_answer(c::tfs::free_bytes(image)),
         Request::TfsReplay => replay_answer(c::trace::replay(image, buffer)),
         Request::TraceRead => record_answer(c::trace::read(buffer, number as usize)),
         Request::TraceWrite => {
             let written = c::trace::write(image, entry(&arguments.entry), name, buffer);
             Answer::of(&[written.refusal, 0, written.length])
         }
-        Request::RomCheck => value_answer(c::romfs::check(image)),
-        Request::RomFind => value_answer(c::romfs::find(image, number, name)),
+        Request::RomCheck => rom_answer(c::romfs::check(image)),
+        Request::RomFind => rom_answer(c::romfs::find(image, number, name)),
         Request::RomEntry => entry_answer(c::romfs::entry(image, number)),
         Request::RomLength | Request::RomContent => part_answer(c::romfs::content(image, number)),
     }
 }
 
-fn value_answer(answer: c::Answer) -> Answer {
-    Answer::of(&[answer.refusal, answer.place, answer.value].map(u64::from))
+fn tfs_answer(answer: c::tfs::Answer) -> Answer {
+    let words = [answer.refusal, answer.place, answer.value, answer.blocks];
+    Answer::of(&words.map(u64::from))
+}
+
+fn rom_answer(answer: c::romfs::Answer) -> Answer {
+    let words = [answer.refusal, answer.place, answer.value];
+    Answer::of(&words.map(u64::from))
 }
 
 fn replay_answer(replayed: c::trace::Replayed) -> Answer {

@@ -99,10 +99,10 @@ fn block_4095_is_used() {
         let listed = large.ask(Request::TfsList, 0, b"");
         assert_eq!(listed.words[..6], [0, 0, 1, 4094, 512, 4]);
         let written = large.transfer(Request::TfsWrite, 2, b"LAST", &[0x55; 600]);
-        assert_eq!(written.value(), 510);
+        assert_eq!(written, Answer::of(&[0, 0, 510, 1]));
         assert!(large.pair.image()[MOST - 510..MOST] == [0x55; 510]);
         let read = large.transfer(Request::TfsRead, 2, b"LAST", &[0xAA; 600]);
-        assert_eq!(read.value(), 510);
+        assert_eq!(read, Answer::of(&[0, 0, 510, 1]));
         assert_eq!(large.ask(Request::TfsRemove, 0, b"LAST"), Answer::default());
         assert_eq!(large.pair.image()[512 + 508], 0);
         assert_eq!(large.free(), 2_095_616);
@@ -154,11 +154,15 @@ fn images_longer_than_4_gib() {
     assert_eq!(reference::tfs::free_bytes(&image), Ok(2_095_616));
     assert_eq!(proved::tfs::create(&mut image, b"A", 1_000), Ok(3));
     let mut buffer = [0x55; 1_100];
-    assert_eq!(proved::tfs::write(&mut image, b"A", 9, &buffer), Ok(991));
-    assert_eq!(proved::tfs::read(&image, b"A", 0, &mut buffer), Ok(1_000));
+    let moved = |count, blocks| Ok(proved::tfs::Transferred { count, blocks });
+    let written = proved::tfs::write(&mut image, b"A", 9, &buffer);
+    assert_eq!(written, moved(991, 2));
+    let read = proved::tfs::read(&image, b"A", 0, &mut buffer);
+    assert_eq!(read, moved(1_000, 2));
     let mut theirs = [0x55; 1_100];
-    let count = reference::tfs::read(&image, b"A", 0, &mut theirs);
-    assert_eq!((count, theirs), (Ok(1_000), buffer));
+    let read = reference::tfs::read(&image, b"A", 0, &mut theirs);
+    assert_eq!(read.map(|read| (read.count, read.blocks)), Ok((1_000, 2)));
+    assert_eq!(theirs, buffer);
 
     let rom = tree_rom(3, 2, 5);
     image[..rom.image.len()].copy_from_slice(&rom.image);

@@ -134,7 +134,7 @@ fn differences(side: Side) -> HashSet<[u32; 2]> {
         let (_, found) = compared(&words, side);
         found.map(|found| found.difference.answers.map(|answer| answer.refusal()))
     };
-    (0..200).filter_map(on_image).collect()
+    (0..400).filter_map(on_image).collect()
 }
 
 #[test]

@@ -206,7 +206,7 @@ fn read_by(image: &mut [u8], record: &[u8], same: fn(&[u8], &[u8]) -> bool) -> b
     };
     let mut bytes = vec![0; length.min(65_024) as usize];
     match tfs::read(image, name, offset, &mut bytes) {
-        Ok(count) => same(&bytes[..count as usize], expected),
+        Ok(read) => same(&bytes[..read.count as usize], expected),
         Err(_) => false,
     }
 }

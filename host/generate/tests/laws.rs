@@ -1,11 +1,11 @@
 //! Round trips and laws over random requests on generated volumes.
 
-use std::collections::{BTreeMap, HashMap};
+use std::collections::{BTreeMap, HashMap, HashSet};
 use std::mem::discriminant;
 
 use generate::tfs::{any_volume, has_leftovers, Volume};
 use generate::Random;
-use reference::tfs::{check, create, free_bytes, list, read, remove, write, Listing};
+use reference::tfs::{check, create, free_bytes, list, read, remove, write, Listing, Transferred};
 
 type Files = BTreeMap<Vec<u8>, Vec<u8>>;
 
@@ -14,7 +14,8 @@ fn files(image: &[u8]) -> Files {
         .filter_map(|slot| match list(image, slot) {
             Ok(Listing::Used { name, size, .. }) => {
                 let mut content = vec![0; size as usize];
-                assert_eq!(read(image, name, 0, &mut content), Ok(size));
+                let count = read(image, name, 0, &mut content).map(|read| read.count);
+                assert_eq!(count, Ok(size));
                 Some((name.to_vec(), content))
             }
             _ => None,
@@ -72,11 +73,16 @@ fn remove_in_both(image: &mut [u8], model: &mut Files, name: &[u8]) -> bool {
     removed.is_ok()
 }
 
-/// The count that is owed to a read or a write of a name, or the number of its refusal.
-fn owed(model: &Files, name: &[u8], offset: usize, length: usize) -> Result<usize, u32> {
+/// What is owed to a read or a write of a name, or the number of its refusal.
+fn owed(model: &Files, name: &[u8], offset: usize, length: usize) -> Result<Transferred, u32> {
     let content = model.get(name).ok_or(13u32)?;
     let behind = content.len().checked_sub(offset).ok_or(15u32)?;
-    Ok(length.min(behind))
+    let count = length.min(behind);
+    let blocks: HashSet<usize> = (offset..offset + count).map(|at| at / 512).collect();
+    Ok(Transferred {
+        count: count as u32,
+        blocks: blocks.len() as u32,
+    })
 }
 
 /// Writes to the image and, if granted, to the model.
@@ -85,16 +91,13 @@ fn write_in_both(random: &mut Random, image: &mut [u8], model: &mut Files, name:
     let bytes = random.bytes(length);
     let offset = random.below(1500);
     let owed = owed(model, name, offset, length);
-    let count = write(image, name, offset as u32, &bytes);
-    assert_eq!(
-        count.map_err(|refusal| refusal.number),
-        owed.map(|count| count as u32)
-    );
-    if let Ok(count) = owed {
-        let content = model.get_mut(name).unwrap();
+    let written = write(image, name, offset as u32, &bytes);
+    assert_eq!(written.map_err(|refusal| refusal.number), owed);
+    if let Ok(owed) = owed {
+        let (content, count) = (model.get_mut(name).unwrap(), owed.count as usize);
         content[offset..offset + count].copy_from_slice(&bytes[..count]);
     }
-    count.is_ok()
+    written.is_ok()
 }
 
 /// Reads from the image what the model holds; the rest of the buffer stays.
@@ -104,16 +107,14 @@ fn read_from_both(random: &mut Random, image: &[u8], model: &Files, name: &[u8])
     let mut expected = buffer.clone();
     let offset = random.below(1500);
     let owed = owed(model, name, offset, length);
-    if let Ok(count) = owed {
+    if let Ok(owed) = owed {
+        let count = owed.count as usize;
         expected[..count].copy_from_slice(&model[name][offset..offset + count]);
     }
-    let count = read(image, name, offset as u32, &mut buffer);
-    assert_eq!(
-        count.map_err(|refusal| refusal.number),
-        owed.map(|count| count as u32)
-    );
+    let answer = read(image, name, offset as u32, &mut buffer);
+    assert_eq!(answer.map_err(|refusal| refusal.number), owed);
     assert_eq!(buffer, expected);
-    count.is_ok()
+    answer.is_ok()
 }
 
 /// The image is consistent, holds the files of the model, and has the rest of its room free.
@@ -182,6 +183,11 @@ fn create_then_remove_gives_map_and_names_back() {
     assert!(clean > 100 && left > 100, "{clean} {left}");
 }
 
+/// The count of a write, which is 0 where it is refused.
+fn count_written(image: &mut [u8], name: &[u8], offset: u32, bytes: &[u8]) -> u32 {
+    write(image, name, offset, bytes).map_or(0, |written| written.count)
+}
+
 #[test]
 fn pieces_are_one_joined_write() {
     rounds(23, 400, |random, made| {
@@ -192,12 +198,12 @@ fn pieces_are_one_joined_write() {
         for _ in 0..random.below(6) {
             let length = random.pick(&[0, 1, 100, 511, 512, 513, 700]);
             let piece = random.bytes(length);
-            let count = write(&mut cut, &name, offset, &piece).unwrap_or(0);
+            let count = count_written(&mut cut, &name, offset, &piece);
             offset += count;
             sum += count;
             whole.extend(piece);
         }
-        assert_eq!(write(&mut joined, &name, start, &whole).unwrap_or(0), sum);
+        assert_eq!(count_written(&mut joined, &name, start, &whole), sum);
         assert_eq!(cut, joined);
     });
 }
@@ -217,7 +223,9 @@ fn a_byte_is_what_the_last_write_put_there() {
                 answer,
                 write(&mut made.image.clone(), &name, offset, &bytes)
             );
-            let Ok(count) = answer else { continue };
+            let Ok(Transferred { count, .. }) = answer else {
+                continue;
+            };
             let file = made.files.iter().find(|file| file.name == name).unwrap();
             for (index, byte) in bytes[..count as usize].iter().enumerate() {
                 let position = offset as usize + index;

@@ -26,10 +26,3 @@ fn told<T>(number: u32, place: u32, granted: T) -> Result<T, Refusal> {
         _ => Err(Refusal { number, place }),
     }
 }
-
-impl c::Answer {
-    /// The value, or the refusal.
-    fn told(self) -> Result<u32, Refusal> {
-        told(self.refusal, self.place, self.value)
-    }
-}

@@ -20,6 +20,13 @@ pub struct Entry {
     pub name_length: u32,
 }
 
+impl c::Answer {
+    /// The value, or the refusal.
+    fn told(self) -> Result<u32, Refusal> {
+        told(self.refusal, self.place, self.value)
+    }
+}
+
 /// Checks the image.
 pub fn check(image: &[u8]) -> Result<(), Refusal> {
     c::check(image).told().map(drop)

@@ -14,6 +14,31 @@ pub struct File {
     pub size: u32,
 }
 
+/// What a granted read or write has moved.
+#[derive(Clone, Copy, Debug, PartialEq, Eq)]
+pub struct Transferred {
+    /// The count of bytes.
+    pub count: u32,
+    /// How many content blocks they lie in.
+    pub blocks: u32,
+}
+
+impl c::Answer {
+    /// The value, or the refusal.
+    fn told(self) -> Result<u32, Refusal> {
+        told(self.refusal, self.place, self.value)
+    }
+
+    /// What was moved, or the refusal.
+    fn transferred(self) -> Result<Transferred, Refusal> {
+        let transferred = Transferred {
+            count: self.value,
+            blocks: self.blocks,
+        };
+        told(self.refusal, self.place, transferred)
+    }
+}
+
 /// Makes an empty volume.
 pub fn format(image: &mut [u8], label: &[u8]) -> Result<(), Refusal> {
     c::format(image, label).told().map(drop)
@@ -34,14 +59,24 @@ pub fn remove(image: &mut [u8], name: &[u8]) -> Result<(), Refusal> {
     c::remove(image, name).told().map(drop)
 }
 
-/// Reads the file of a name into the buffer; the count.
-pub fn read(image: &[u8], name: &[u8], offset: u32, buffer: &mut [u8]) -> Result<u32, Refusal> {
-    c::read(image, name, offset, buffer).told()
+/// Reads the file of a name into the buffer; the count, and the blocks met.
+pub fn read(
+    image: &[u8],
+    name: &[u8],
+    offset: u32,
+    buffer: &mut [u8],
+) -> Result<Transferred, Refusal> {
+    c::read(image, name, offset, buffer).transferred()
 }
 
-/// Writes the buffer into the file of a name; the count.
-pub fn write(image: &mut [u8], name: &[u8], offset: u32, buffer: &[u8]) -> Result<u32, Refusal> {
-    c::write(image, name, offset, buffer).told()
+/// Writes the buffer into the file of a name; the count, and the blocks met.
+pub fn write(
+    image: &mut [u8],
+    name: &[u8],
+    offset: u32,
+    buffer: &[u8],
+) -> Result<Transferred, Refusal> {
+    c::write(image, name, offset, buffer).transferred()
 }
 
 /// What stands in a slot: nothing, or a file.

@@ -1,7 +1,7 @@
 //! One form for all requests: which one it is, and what it is given besides the image.
 
 use crate::romfs;
-use crate::tfs::{self, Listing};
+use crate::tfs::{self, Listing, Transferred};
 use crate::trace::{self, Draft, Entry, Replayed};
 use crate::Refusal;
 
@@ -84,8 +84,8 @@ pub fn run(
         Request::TfsFormat => tfs::format(image, name).map(nothing),
         Request::TfsCreate => tfs::create(image, name, number).map(one),
         Request::TfsRemove => tfs::remove(image, name).map(nothing),
-        Request::TfsRead => tfs::read(image, name, number, buffer).map(one),
-        Request::TfsWrite => tfs::write(image, name, number, buffer).map(one),
+        Request::TfsRead => tfs::read(image, name, number, buffer).map(moved),
+        Request::TfsWrite => tfs::write(image, name, number, buffer).map(moved),
         Request::TfsList => tfs::list(image, number).map(listed),
         Request::TfsFree => tfs::free_bytes(image).map(one),
         Request::TfsReplay => trace::replay(image, buffer).map(ended),
@@ -117,6 +117,11 @@ fn nothing((): ()) -> Granted {
 /// The result of a request that gives a number.
 fn one(value: u32) -> Granted {
     (vec![value], Vec::new())
+}
+
+/// The result of a read or a write: the count, and how many blocks its range meets.
+fn moved(Transferred { count, blocks }: Transferred) -> Granted {
+    (vec![count, blocks], Vec::new())
 }
 
 /// The end of a replay: 0 all records, 1 malformed, 2 differs; then how many, or which from 1.

@@ -2,7 +2,7 @@
 
 use std::num::NonZeroU32;
 
-use reference::tfs::{create, format, free_bytes, read, write};
+use reference::tfs::{create, format, free_bytes, read, write, Transferred};
 use reference::trace::{replay, write_all, Record, Replayed};
 use reference::Refusal;
 
@@ -82,7 +82,11 @@ fn a_session_is_replayed_wholly() {
     let (ended, image) = replayed(&records);
     assert_eq!(ended, Replayed::All(10));
     assert_eq!(free_bytes(&image), Ok(14 * 512));
-    assert_eq!(read(&image, b"B", 0, &mut [0; 600]), Ok(513));
+    let whole = Transferred {
+        count: 513,
+        blocks: 2,
+    };
+    assert_eq!(read(&image, b"B", 0, &mut [0; 600]), Ok(whole));
     assert_eq!(replayed(&[]), (Replayed::All(0), volume()));
 }
 

@@ -1,10 +1,19 @@
 //! The numbers and the mistakes that the rules name, for TFS.
 
-use reference::tfs::{check, create, format, free_bytes, list, read, remove, write, Listing};
+use std::collections::HashSet;
+
+use reference::tfs::{
+    blocks_met, check, create, format, free_bytes, list, read, remove, write, Listing, Transferred,
+};
 use reference::Refusal;
 
 fn plain<T>(number: u32) -> Result<T, Refusal> {
     Err(Refusal::plain(number))
+}
+
+/// The answer of a read or a write of so many bytes in so many blocks.
+fn moved(count: u32, blocks: u32) -> Result<Transferred, Refusal> {
+    Ok(Transferred { count, blocks })
 }
 
 fn formatted(length: usize) -> Vec<u8> {
@@ -68,18 +77,18 @@ fn create_of_timing() {
 fn counts_at_the_end_of_a_file() {
     let mut image = pump();
     let mut buffer = [7; 200];
-    assert_eq!(read(&image, b"TIMING", 900, &mut buffer), Ok(100));
+    assert_eq!(read(&image, b"TIMING", 900, &mut buffer), moved(100, 1));
     assert_eq!(
         (buffer[..100].to_vec(), buffer[100..].to_vec()),
         (vec![0; 100], vec![7; 100])
     );
-    assert_eq!(read(&image, b"TIMING", 1_000, &mut buffer), Ok(0));
+    assert_eq!(read(&image, b"TIMING", 1_000, &mut buffer), moved(0, 0));
     assert_eq!(read(&image, b"TIMING", 1_001, &mut buffer), plain(15));
     assert_eq!(read(&image, b"TIMING", 1_001, &mut []), plain(15));
     assert_eq!(read(&image, b"TIMING", u32::MAX, &mut buffer), plain(15));
-    assert_eq!(read(&image, b"TIMING", 5, &mut []), Ok(0));
+    assert_eq!(read(&image, b"TIMING", 5, &mut []), moved(0, 0));
     let before = image.clone();
-    assert_eq!(write(&mut image, b"TIMING", 990, &[9; 30]), Ok(10));
+    assert_eq!(write(&mut image, b"TIMING", 990, &[9; 30]), moved(10, 1));
     let mut expected = before;
     expected[5 * 512 + 478..5 * 512 + 488].fill(9);
     assert_eq!(image, expected);
@@ -205,14 +214,14 @@ fn a_name_means_the_file_that_has_it_now() {
     assert_eq!(create(&mut image, b"TIMING", 4), Ok(6));
 
     let mut buffer = [7; 9];
-    assert_eq!(read(&image, b"TIMING", 0, &mut buffer), Ok(4));
+    assert_eq!(read(&image, b"TIMING", 0, &mut buffer), moved(4, 1));
     assert_eq!(buffer, [0, 0, 0, 0, 7, 7, 7, 7, 7]);
     assert_eq!(read(&image, b"TIMING", 5, &mut buffer), plain(15));
     let mut expected = image.clone();
     expected[7 * 512 + 1..7 * 512 + 4].fill(9);
-    assert_eq!(write(&mut image, b"TIMING", 1, &[9; 9]), Ok(3));
+    assert_eq!(write(&mut image, b"TIMING", 1, &[9; 9]), moved(3, 1));
     assert_eq!(image, expected);
-    assert_eq!(read(&image, b"OTHER", 0, &mut buffer), Ok(9));
+    assert_eq!(read(&image, b"OTHER", 0, &mut buffer), moved(9, 1));
     assert_eq!(buffer, [0; 9]);
 }
 
@@ -511,15 +520,16 @@ fn a_full_directory_may_have_leftovers() {
 /// The answers of some requests, one after another, and the bytes that the read gives.
 fn answers_in_turn(image: &mut [u8]) -> (Vec<Result<u32, Refusal>>, [u8; 40]) {
     let mut buffer = [7; 40];
+    let count = |moved: Transferred| moved.count;
     let answers = vec![
-        write(image, b"TIMING", 990, &[0x33; 30]),
+        write(image, b"TIMING", 990, &[0x33; 30]).map(count),
         create(image, b"old bytes", 700),
         create(image, b"TIMING", 0),
-        write(image, b"old bytes", 0, &[0x44; 9]),
+        write(image, b"old bytes", 0, &[0x44; 9]).map(count),
         free_bytes(image),
         remove(image, b"x").map(|()| 0),
         remove(image, b"old bytes").map(|()| 0),
-        read(image, b"TIMING", 980, &mut buffer),
+        read(image, b"TIMING", 980, &mut buffer).map(count),
         check(image).map(|()| 0),
     ];
     (answers, buffer)
@@ -535,4 +545,138 @@ fn leftovers_are_ignored_and_kept() {
     assert_eq!(image[1044..1064], [0; 20]);
     assert_eq!(image[1064..1536], before[1064..1536]);
     assert_eq!(image[1536..], clean[1536..]);
+}
+
+/// A file "f" of some size whose content blocks stand in falling order, and then a file "g".
+fn falling(size: u32) -> Vec<u8> {
+    let mut image = blocks(160);
+    create(&mut image, b"f", size).unwrap();
+    create(&mut image, b"g", 1_500).unwrap();
+    let count = size.div_ceil(512) as usize;
+    image[3 * 512 + 4..][..4 * count]
+        .as_chunks_mut::<4>()
+        .0
+        .reverse();
+    assert_eq!(check(&image), Ok(()));
+    image
+}
+
+/// The distinct numbers that the inode of "f" lists for the bytes of a range, byte by byte.
+fn listed_blocks(image: &[u8], offset: u32, count: u32) -> HashSet<u32> {
+    let listed = |position: u32| {
+        let at = 3 * 512 + 4 + 4 * (position as usize / 512);
+        u32::from_be_bytes(image[at..at + 4].try_into().unwrap())
+    };
+    (offset..offset + count).map(listed).collect()
+}
+
+/// The answer of a read of "f" and of a write with such a buffer, which is the same.
+fn both_moved(image: &[u8], offset: u32, length: usize) -> Result<Transferred, Refusal> {
+    let mut after = image.to_vec();
+    let answer = read(image, b"f", offset, &mut vec![0; length]);
+    let written = write(&mut after, b"f", offset, &vec![7; length]);
+    assert_eq!(answer, written, "{offset} {length}");
+    answer
+}
+
+#[test]
+fn a_count_of_0_meets_no_block() {
+    let image = falling(1_300);
+    for offset in [0, 1, 511, 512, 513, 1_024, 1_100, 1_299, 1_300] {
+        assert_eq!(both_moved(&image, offset, 0), moved(0, 0), "{offset}");
+    }
+    for length in [1, 511, 512, 513, 5_000] {
+        assert_eq!(both_moved(&image, 1_300, length), moved(0, 0), "{length}");
+    }
+    for size in [0, 512, 1_024, 65_024] {
+        assert_eq!(both_moved(&falling(size), size, 600), moved(0, 0), "{size}");
+    }
+}
+
+#[test]
+fn blocks_of_ranges_around_an_edge() {
+    let image = falling(1_300);
+    // Offset, length of the buffer; count and blocks.
+    let ranges = [
+        (0, 1, 1, 1),
+        (0, 511, 511, 1),
+        (0, 512, 512, 1),
+        (0, 513, 513, 2),
+        (0, 1_024, 1_024, 2),
+        (0, 1_025, 1_025, 3),
+        (1, 511, 511, 1),
+        (1, 512, 512, 2),
+        (1, 1_023, 1_023, 2),
+        (1, 1_024, 1_024, 3),
+        (511, 1, 1, 1),
+        (511, 2, 2, 2),
+        (511, 513, 513, 2),
+        (511, 514, 514, 3),
+        (512, 1, 1, 1),
+        (512, 512, 512, 1),
+        (512, 513, 513, 2),
+        (513, 511, 511, 1),
+        (513, 512, 512, 2),
+        (1_023, 2, 2, 2),
+        (0, 1_300, 1_300, 3),
+        (0, 9_000, 1_300, 3),
+        (511, 9_000, 789, 3),
+        (1_023, 600, 277, 2),
+        (1_024, 600, 276, 1),
+        (1_299, 600, 1, 1),
+    ];
+    for (offset, length, count, blocks) in ranges {
+        let answer = both_moved(&image, offset, length);
+        assert_eq!(answer, moved(count, blocks), "{offset} {length}");
+    }
+}
+
+#[test]
+fn blocks_of_whole_files() {
+    for size in [1, 511, 512, 513, 1_023, 1_024, 1_025, 65_023, 65_024] {
+        let (image, all) = (falling(size), size.div_ceil(512));
+        for length in [size as usize, size as usize + 1, 70_000] {
+            assert_eq!(both_moved(&image, 0, length), moved(size, all), "{size}");
+        }
+    }
+}
+
+#[test]
+fn refused_transfers_meet_no_block() {
+    let image = falling(1_300);
+    for length in [0, 1, 600] {
+        assert_eq!(both_moved(&image, 1_301, length), plain(15));
+        assert_eq!(both_moved(&image, u32::MAX, length), plain(15));
+    }
+}
+
+#[test]
+fn blocks_are_those_that_the_inode_lists() {
+    let size = 2_600;
+    let image = falling(size);
+    for offset in (0..=size).filter(|offset| offset % 7 == 0 || (offset + 2) % 512 < 5) {
+        for length in [
+            0, 1, 2, 3, 300, 509, 511, 512, 513, 515, 1_024, 1_100, 2_600,
+        ] {
+            let count = length.min(size - offset);
+            let distinct = listed_blocks(&image, offset, count).len() as u32;
+            let answer = both_moved(&image, offset, length as usize);
+            assert_eq!(answer, moved(count, distinct), "{offset} {length}");
+        }
+    }
+}
+
+#[test]
+fn the_greatest_number_of_blocks_is_reached_and_not_exceeded() {
+    for count in 1..=66_000 {
+        let most = (count + 510) / 512 + 1;
+        let met = (0..512).map(|offset| blocks_met(offset, count, 512));
+        assert_eq!(met.max(), Some(most), "{count}");
+    }
+    let image = falling(65_024);
+    for count in (1..=64_513).filter(|count| count % 97 == 0 || (count + 2) % 512 < 5) {
+        let most = (count + 510) / 512 + 1;
+        let answer = read(&image, b"f", 511, &mut vec![0; count as usize]);
+        assert_eq!(answer, moved(count, most), "{count}");
+    }
 }

@@ -84,11 +84,12 @@ A name ends at its zero; leftovers behind it are shown by tfs dump only.",
     },
     Command {
         name: "put",
-        usage: "IMAGE HOSTFILE [--name NAME] [--replace] [--record TRACE]",
+        usage: "IMAGE HOSTFILE [--name NAME] [--replace] [--blocks] [--record TRACE]",
         about: concat!(
             recorded!(
                 "Puts a host file into the volume, under its own name or under NAME.
-HOSTFILE may be - for standard input. A name that stands is refused, unless --replace is given."
+HOSTFILE may be - for standard input. A name that stands is refused, unless --replace is given.
+--blocks prints how many content blocks the file's bytes were written to: \"content blocks: N\"."
             ),
             "
 Where --replace has removed a file in memory and the new one is refused, nothing is recorded,
@@ -97,23 +98,25 @@ since the image stays as it was."
         words: (2, 2),
         options: Options {
             valued: &["--name", "--record"],
-            flags: &["--replace"],
+            flags: &["--replace", "--blocks"],
         },
         run: put,
     },
     Command {
         name: "get",
-        usage: "IMAGE NAME [HOSTFILE] [--record TRACE]",
+        usage: "IMAGE NAME [HOSTFILE] [--blocks] [--record TRACE]",
         about: recorded!(
             "Writes a file of the volume to HOSTFILE, or to a host file NAME in the working folder.
-HOSTFILE may be - for standard output. A host file that stands there is replaced."
+HOSTFILE may be - for standard output. A host file that stands there is replaced.
+--blocks prints how many content blocks the file's bytes were read from: \"content blocks: N\".
+With HOSTFILE - this line goes to standard error, so that standard output is the content alone."
         ),
         words: (2, 3),
-        options: ONLY_RECORD,
-        run: |given| {
-            let (host, record) = (given.path_if_given(2), given.path_of("--record"));
-            volume::get(given.path(0), given.word(1), host, record)
+        options: Options {
+            valued: &["--record"],
+            flags: &["--blocks"],
         },
+        run: get,
     },
     Command {
         name: "remove",
@@ -320,8 +323,18 @@ fn put(given: &Arguments) -> Outcome {
         host: given.path(1),
         name: given.value("--name").map(|name| name.as_bytes()),
         replace: given.flag("--replace"),
+        blocks: given.flag("--blocks"),
     };
     volume::put(given.path(0), &put, given.path_of("--record"))
+}
+
+fn get(given: &Arguments) -> Outcome {
+    let get = volume::Get {
+        name: given.word(1),
+        host: given.path_if_given(2),
+        blocks: given.flag("--blocks"),
+    };
+    volume::get(given.path(0), &get, given.path_of("--record"))
 }
 
 fn dump(given: &Arguments) -> Outcome {

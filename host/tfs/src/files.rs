@@ -45,10 +45,18 @@ pub fn read_if_there(path: &Path) -> Result<Vec<u8>, Failure> {
 
 /// Writes to standard output.
 pub fn print(bytes: &[u8]) -> Result<(), Failure> {
-    let mut out = io::stdout().lock();
+    print_to(io::stdout().lock(), "standard output", bytes)
+}
+
+/// Writes to standard error what is told of content on standard output.
+pub fn print_beside(bytes: &[u8]) -> Result<(), Failure> {
+    print_to(io::stderr().lock(), "standard error", bytes)
+}
+
+fn print_to(mut out: impl Write, name: &str, bytes: &[u8]) -> Result<(), Failure> {
     out.write_all(bytes)
         .and_then(|()| out.flush())
-        .map_err(|error| Failure::host(Path::new("standard output"), error))
+        .map_err(|error| Failure::host(Path::new(name), error))
 }
 
 /// Fails where two paths lead to one file, there or not yet.

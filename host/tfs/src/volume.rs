@@ -5,7 +5,8 @@ use crate::files::{self, STANDARD};
 use crate::image::Image;
 use crate::trace::Session;
 use crate::words;
-use proved::{tfs, Refusal};
+use proved::tfs::{self, Transferred};
+use proved::Refusal;
 use std::ffi::OsStr;
 use std::os::unix::ffi::OsStrExt;
 use std::path::Path;
@@ -71,6 +72,8 @@ pub struct Put<'a> {
     pub name: Option<&'a [u8]>,
     /// Whether a file of that name is replaced.
     pub replace: bool,
+    /// Whether the number of content blocks is told.
+    pub blocks: bool,
 }
 
 /// Puts a host file into a volume.
@@ -84,7 +87,7 @@ pub fn put(path: &Path, given: &Put<'_>, record: Option<&Path>) -> Outcome {
     let mut image = Image::load(path)?;
     // One byte more than a file may have is enough for the refusal.
     let content = files::read_at_most(host, LARGEST_FILE as usize + 1)?;
-    match store(
+    let written = match store(
         &mut session,
         &mut image.bytes,
         name,
@@ -92,13 +95,22 @@ pub fn put(path: &Path, given: &Put<'_>, record: Option<&Path>) -> Outcome {
         given.replace,
     ) {
         Err(refusal) => return Err(session.refused(&image, refusal)),
-        Ok(count) if count as usize != content.len() => {
-            return Err(image.unread(format!("{count} of {} bytes written", content.len())));
-        }
-        Ok(_) => {}
+        Ok(written) => written,
+    };
+    let Transferred { count, blocks } = written;
+    if count as usize != content.len() {
+        return Err(image.unread(format!("{count} of {} bytes written", content.len())));
     }
     session.save_with(path, || image.save())?;
-    Ok(Vec::new())
+    Ok(told(given.blocks, blocks))
+}
+
+/// The line of a number of content blocks, where it is asked for.
+fn told(asked: bool, blocks: u32) -> Vec<u8> {
+    match asked {
+        true => format!("content blocks: {blocks}\n").into_bytes(),
+        false => Vec::new(),
+    }
 }
 
 /// The name of a host file without its folder; standard input has none.
@@ -115,7 +127,7 @@ fn store(
     name: &[u8],
     content: &[u8],
     replace: bool,
-) -> Result<u32, Refusal> {
+) -> Result<Transferred, Refusal> {
     if replace {
         match session.remove(volume, name) {
             Err(refusal) if refusal.number != NO_SUCH_NAME => return Err(refusal),
@@ -126,29 +138,41 @@ fn store(
     session.write(volume, name, 0, content)
 }
 
-/// Gets a file out of a volume.
-pub fn get(path: &Path, name: &OsStr, host: Option<&Path>, record: Option<&Path>) -> Outcome {
-    let host = match host {
+/// What is got: a file, into a host file of its own name or another.
+pub struct Get<'a> {
+    pub name: &'a OsStr,
+    pub host: Option<&'a Path>,
+    /// Whether the number of content blocks is told.
+    pub blocks: bool,
+}
+
+/// Gets a file out of a volume. With the content on standard output, what is told of it goes to
+/// standard error.
+pub fn get(path: &Path, given: &Get<'_>, record: Option<&Path>) -> Outcome {
+    let host = match given.host {
         Some(host) => host,
-        None => as_host_file(name)?,
+        None => as_host_file(given.name)?,
     };
     let mut session = Session::open(record, path)?;
     let image = Image::load(path)?;
-    let read = session.read(&image.bytes, name.as_bytes(), 0, LARGEST_FILE);
+    let read = session.read(&image.bytes, given.name.as_bytes(), 0, LARGEST_FILE);
     let content = match read {
         Ok(content) => content,
         Err(refusal) => return Err(session.refused(&image, refusal)),
     };
+    let told = told(given.blocks, content.blocks);
     if host == Path::new(STANDARD) {
         session.save()?;
-        return Ok(content);
+        files::print(&content.bytes)?;
+        files::print_beside(&told)?;
+        return Ok(Vec::new());
     }
     files::apart(host, path, "the image")?;
     if let Some(record) = record {
         files::apart(host, record, "the trace")?;
     }
-    session.save_with(host, || files::write(host, &content))?;
-    Ok(Vec::new())
+    session.save_with(host, || files::write(host, &content.bytes))?;
+    Ok(told)
 }
 
 /// A name in a volume as that of a host file in the working folder.

@@ -223,7 +223,7 @@ fn drawn_traces_end_as_they_should() {
     let folder = Folder::new("replay_drawn");
     let mut random = Random::new(5);
     let mut met = [0; 6];
-    for round in 0..30 {
+    for round in 0..48 {
         let made = any_volume(&mut random, 40);
         let plan = Plan::small(&mut random);
         let mut trace = session(&mut random, &made, plan);

@@ -4,7 +4,7 @@ mod bench;
 
 use bench::Folder;
 
-const PUT: &str = "put IMAGE HOSTFILE [--name NAME] [--replace] [--record TRACE]";
+const PUT: &str = "put IMAGE HOSTFILE [--name NAME] [--replace] [--blocks] [--record TRACE]";
 
 #[test]
 fn help_tells_of_every_command() {

@@ -29,9 +29,9 @@ returns-2 c =
     let found = told .before .before in
     let call = found .check in
     let e = at-passed (call .result) _ (call .ensures .0) (refuse (now (found .before .before .before .before .args .image)) (now (found .before .before .before .before .args .buf))) _ (told .enum-told .given .1) in (
-      c .answer-of .ensures .0 ∙ step .read-step .ensures .0 ∙ ap (λ (o : Outcome). o .answer) e,
+      c .transfer-of .ensures .0 ∙ step .read-step .ensures .0 ∙ ap (λ (o : Outcome). o .answer) e,
       step .read-step .ensures .1 ∙ ap (λ (o : Outcome). o .buffer) e,
-      c .answer-of .ensures .1,
+      c .transfer-of .ensures .1,
     )
 
 pub read-spec : {M : Type 1} → statement M

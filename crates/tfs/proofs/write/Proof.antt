@@ -30,9 +30,9 @@ returns-2 c =
     let found = told .before .before in
     let call = found .check in
     let e = at-passed (call .result) _ (call .ensures .0) (refuse (now (found .before .before .before .before .before .args .image)) []) _ (told .enum-told .given .1) in (
-      c .answer-of .ensures .0 ∙ step .write-step .ensures .0 ∙ ap (λ (o : Outcome). o .answer) e,
+      c .transfer-of .ensures .0 ∙ step .write-step .ensures .0 ∙ ap (λ (o : Outcome). o .answer) e,
       step .write-step .ensures .1 ∙ ap (λ (o : Outcome). o .image) e,
-      c .answer-of .ensures .1,
+      c .transfer-of .ensures .1,
     )
 
 pub write-spec : {M : Type 1} → statement M

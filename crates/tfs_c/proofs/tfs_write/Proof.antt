@@ -6,7 +6,7 @@ use Rattle.tfs_c.proofs.tfs_write.Statement.{statement}
 use Rattle.tfs_c.proofs.tfs_write.Tie as tie
 
 returns : tie.Need-returns
-returns c = let call = c .before .before .before .write .ensures in (c .of-answer .ensures ∙ ap resultOf (call .0), call .1)
+returns c = let call = c .before .before .before .write .ensures in (c .of-transfer .ensures ∙ ap resultOf (call .0), call .1)
 
 pub tfs-write-spec : {M : Type 1} → statement M
 tfs-write-spec = tie.close (tie.spec (λ c κs. search needs) (λ c κs. search needs) (λ c. search needs) returns)

@@ -57,5 +57,4 @@ reach-of-spec =
     returns
     (λ c κs. search needs)
     file-blocks-requires
-    (λ c. search needs)
     returns-2)

@@ -1,10 +1,12 @@
 -- `write_file` meets its contract: by the case that `reach_of` gives.
 use mathlib.Core.Path.{refl, sym, ap, subst, _∙_}
+use Prim.Native.Nat.{_<_}
 use native.Mathlib.Omega.{arith}
 use lib.ListN.{length}
 use denote.Ref.{now}
 use borrow.Author.Needs.{needs}
-use Rattle.tfs_transfer.specs.Transfer.{reachTold, Reaches, allowed, runs-ready, write-all}
+use Rattle.tfs_spec.specs.Requests.{transferred}
+use Rattle.tfs_transfer.specs.Transfer.{reachTold, Reaches, allowed, runs-ready, few-bytes, write-all}
 use Rattle.tfs_transfer.specs.declared.Reach.{Reach}
 use Rattle.tfs_transfer.specs.declared.Reach.the-variants.{Bytes}
 use Rattle.tfs_transfer.proofs.write_file.Statement.{statement}
@@ -22,6 +24,11 @@ Found c r = Reaches (now (start c .args .image)) (start c .args .s) (start c .ar
 reached : (c : tie.After-known-told2) → Found (found c) (Bytes (c .before .moved .given .0 .0) (c .before .moved .given .0 .1 .0))
 reached c = subst (Found (found c)) (c .before .moved .given .1) (found c .reach-of .ensures .1)
 
+small : (c : tie.After-known-told2) → c .before .moved .given .0 .0 < 4294967296
+small c =
+    let start = start (found c) in
+    few-bytes _ (start .pre .0) _ (start .pre .1) _ _ _ (reached c .0) _ (reached c .1 .content)
+
 write-runs-requires : tie.Need-write-runs-requires
 write-runs-requires c κs =
     let known = c .before .before .before in
@@ -33,16 +40,16 @@ returns : tie.Need-returns
 returns c =
     let found = c .before .before .before in
     let e = c .before .n .given .1 in
-    rw (sym (found .reach-of .ensures .0) ∙ ap reachTold e) (refl, refl, subst (Found found) e (found .reach-of .ensures .1))
+    rw (sym (found .reach-of .ensures .0) ∙ ap (reachTold _) e) (refl, refl, subst (Found found) e (found .reach-of .ensures .1))
 
 returns-2 : tie.Need-returns-2
 returns-2 c =
-    let run = c .before .before in
+    let run = c .before .before .before in
     let known = run .before .before .before .before in
     let start = start (found known) in
     let r = reached known in
     rw (allowed (r .0))
-    (refl, write-all _ (start .pre .0) _ (start .pre .1) _ _ _ (r .0) _ (r .1 .content) (now (start .args .buf)) (run .write-runs .last .0) refl (run .write-runs .ensures), tt)
+    (ap (transferred (known .before .moved .given .0 .0)) (c .blocks-met .ensures), write-all _ (start .pre .0) _ (start .pre .1) _ _ _ (r .0) _ (r .1 .content) (now (start .args .buf)) (run .write-runs .last .0) refl (run .write-runs .ensures), tt)
 
 pub write-file-spec : {M : Type 1} → statement M
 write-file-spec =
@@ -51,11 +58,13 @@ write-file-spec =
     (λ c κs. search needs)
     (λ c. search needs)
     (λ c. search needs)
-    (λ c. search needs)
     (λ c. reached (c .before) .1 .some)
     (λ c. reached (c .before .before) .1 .some)
     (λ c. reached (c .before .before) .1 .fits)
     write-runs-requires
+    (λ c. omega (arith, small (c .before .before .before .before .before .before)))
+    (λ c. omega (arith, small (c .before .before .before .before .before .before)))
+    (λ c κs. search needs)
     (λ c. search needs)
     returns
     (λ c. search needs)

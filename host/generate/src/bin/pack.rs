@@ -37,8 +37,8 @@
 //! | 2 | TFS format | name | | image |
 //! | 3 | TFS create | number = size, name | inode number | image |
 //! | 4 | TFS remove | name | | image |
-//! | 5 | TFS read | number = offset, name, buffer | count | buffer |
-//! | 6 | TFS write | number = offset, name, buffer | count | image |
+//! | 5 | TFS read | number = offset, name, buffer | count, blocks met | buffer |
+//! | 6 | TFS write | number = offset, name, buffer | count, blocks met | image |
 //! | 7 | TFS list | number = slot | 0 for a free slot; else 1, inode number, size, and text = name | - |
 //! | 8 | TFS free bytes | | free bytes | - |
 //! | 9 | TFS replay | buffer = trace | outcome (0 all replayed, 1 malformed, 2 differs), number of records or of the record | image |
@@ -172,6 +172,25 @@ mod tests {
             });
         expected.extend(hash.to_be_bytes());
         assert_eq!(packed, expected);
+    }
+
+    #[test]
+    fn a_granted_read_has_two_values() {
+        use reference::request::{Arguments, Request};
+        let mut image = vec![0; 6 * 512];
+        reference::tfs::format(&mut image, b"").unwrap();
+        reference::tfs::create(&mut image, b"n", 600).unwrap();
+        let arguments = Arguments {
+            number: 510,
+            name: b"n".to_vec(),
+            buffer: vec![0xCD; 3],
+            ..Arguments::default()
+        };
+        let case = Case::new(Request::TfsRead, arguments, &image);
+        let packed = pack(std::slice::from_ref(&case));
+        let mut end = [0u32, 0, 2, 3, 2, 0].map(u32::to_be_bytes).concat();
+        end.extend(case.answer.hash.to_be_bytes());
+        assert!(packed.ends_with(&end));
     }
 
     #[test]

@@ -2,6 +2,7 @@
 
 mod case;
 mod drawn;
+mod ranges;
 mod romfs;
 mod romfs_arguments;
 mod tfs;

@@ -7,7 +7,7 @@ use super::case::Case;
 use super::drawn::Drawn;
 use super::tfs_arguments::{size, tfs_arguments};
 use super::trace_arguments::trace_arguments;
-use super::traces;
+use super::{ranges, traces};
 use crate::tfs::{
     any_volume, change_case, damage_slot, damage_volume, damage_volume_twice, has_leftovers,
     padding, scramble_volume, volume, File, Shape, SlotFault, Volume,
@@ -31,9 +31,10 @@ const OTHERS: [Request; 12] = [
 
 /// Draws cases on TFS volumes: a check of every image, other requests on some of them.
 ///
-/// Every answer of every request, every way to break a slot, and every place where the end of a
-/// volume cuts a word of the map comes up before the rest is left to chance. Volumes have 40 blocks
-/// at most, but some have up to 133; with `large` the last few cases are on a volume of 4096 blocks.
+/// Every answer of every request, every way to break a slot, every place where the end of a volume
+/// cuts a word of the map, and reads and writes around the edges of blocks come up before the rest
+/// is left to chance. Volumes have 40 blocks at most, but some have up to 133; with `large` the last
+/// few cases are on a volume of 4096 blocks.
 pub fn tfs_cases(seed: u64, count: usize, large: bool) -> Vec<Case> {
     let mut drawn = Drawn::new(seed);
     let last = if large {
@@ -147,6 +148,7 @@ fn one_of_each(drawn: &mut Drawn) {
     }
     drawn.add_plain(Request::TfsFree, image);
     room(drawn);
+    ranges::one_of_each(drawn);
     drawn.add_plain(Request::TfsFormat, &image[..3 * BLOCK_SIZE - 1]);
     let crowded = volume(&mut drawn.random, Shape::Crowded, 28);
     drawn.add_plain(Request::TfsCheck, &crowded.image);

@@ -3,6 +3,7 @@
 use reference::request::{Arguments, Request};
 use reference::tfs::{BLOCK_SIZE, LARGEST_FILE, SLOTS};
 
+use super::ranges::{around_edges, Range};
 use crate::tfs::{not_allowed, similar, File, Volume};
 use crate::Random;
 
@@ -93,18 +94,31 @@ fn slot(random: &mut Random, made: &Volume) -> u32 {
     ])
 }
 
-/// Arguments of a read or a write; the offset is near the end that the file has, or had.
+/// Arguments of a read or a write, by the size that the file has, or had.
 fn transfer(random: &mut Random, made: &Volume) -> Arguments {
-    let file = any_file(random, made, 6);
-    let size = file.map_or(0, |file| file.size);
-    let number = offset(random, size);
-    let length = buffer_length(random, size.saturating_sub(number) as usize);
+    let size = |file: Option<&File>| file.map_or(0, |file| file.size);
+    let one = any_file(random, made, 6);
+    let other = any_file(random, made, 6);
+    let (file, Range { offset, length }) = match random.one_in(2) {
+        true => {
+            let larger = if size(one) < size(other) { other } else { one };
+            (larger, around_edges(random, size(larger)))
+        }
+        false => (one, anywhere(random, size(one))),
+    };
     Arguments {
-        number,
+        number: offset,
         name: name(random, file, 0),
         buffer: random.bytes(length),
         ..Arguments::default()
     }
+}
+
+/// A range in a file of some size, or behind it.
+fn anywhere(random: &mut Random, size: u32) -> Range {
+    let offset = offset(random, size);
+    let length = buffer_length(random, size.saturating_sub(offset) as usize);
+    Range { offset, length }
 }
 
 /// An offset in a file of some size, mostly inside, often at the edge of a block.

@@ -99,12 +99,15 @@ fn asked(
             expected: remove(made, name),
         },
         Request::TfsRead => return read(random, &made.image, arguments, plan),
-        Request::TfsWrite => Record::Write {
-            name,
-            offset: number,
-            bytes: buffer,
-            expected: expected(tfs::write(&mut made.image, name, number, buffer)),
-        },
+        Request::TfsWrite => {
+            let written = tfs::write(&mut made.image, name, number, buffer);
+            Record::Write {
+                name,
+                offset: number,
+                bytes: buffer,
+                expected: expected(written.map(|written| written.count)),
+            }
+        }
         _ => Record::FreeBytes {
             expected: expected(tfs::free_bytes(&made.image)),
         },
@@ -135,7 +138,7 @@ fn read(random: &mut Random, image: &[u8], arguments: &Arguments, plan: Plan) ->
     let Arguments { number, name, .. } = arguments;
     let mut content = vec![0; LARGEST_FILE as usize];
     let behind = tfs::read(image, name, *number, &mut content);
-    content.truncate(behind.unwrap_or(0) as usize);
+    content.truncate(behind.map_or(0, |read| read.count) as usize);
     let longer = [65_024, 65_025, 1 << 20, 1 << 31, u32::MAX - 1, u32::MAX];
     let length = match content.len() <= plan.longest.max(600) && random.one_in(6) {
         true => random.pick(&longer),

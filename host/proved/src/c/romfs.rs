@@ -1,6 +1,16 @@
 //! `include/romfs.h`.
 
-use super::Answer;
+/// `romfs_result`.
+#[repr(C)]
+#[derive(Clone, Copy, Debug, PartialEq, Eq)]
+pub struct Answer {
+    /// The number of the refusal; 0 is granted.
+    pub refusal: u32,
+    /// The header at fault.
+    pub place: u32,
+    /// The offset of a found header.
+    pub value: u32,
+}
 
 /// `romfs_header`.
 #[repr(C)]

@@ -1,6 +1,18 @@
 //! `include/tfs.h`.
 
-use super::Answer;
+/// `tfs_result`.
+#[repr(C)]
+#[derive(Clone, Copy, Debug, PartialEq, Eq)]
+pub struct Answer {
+    /// The number of the refusal; 0 is granted.
+    pub refusal: u32,
+    /// The slot or block at fault.
+    pub place: u32,
+    /// An inode number, a count or free bytes.
+    pub value: u32,
+    /// Granted reads and writes: how many content blocks the bytes lie in.
+    pub blocks: u32,
+}
 
 /// `tfs_slot`.
 #[repr(C)]
@@ -93,7 +105,7 @@ pub fn remove(image: &mut [u8], name: &[u8]) -> Answer {
     unsafe { tfs_remove(image.as_mut_ptr(), image.len(), name.as_ptr(), name.len()) }
 }
 
-/// Reads the file of a name into the buffer; the count.
+/// Reads the file of a name into the buffer; the count, and the blocks met.
 pub fn read(image: &[u8], name: &[u8], offset: u32, buffer: &mut [u8]) -> Answer {
     unsafe {
         tfs_read(
@@ -108,7 +120,7 @@ pub fn read(image: &[u8], name: &[u8], offset: u32, buffer: &mut [u8]) -> Answer
     }
 }
 
-/// Writes the buffer into the file of a name; the count.
+/// Writes the buffer into the file of a name; the count, and the blocks met.
 pub fn write(image: &mut [u8], name: &[u8], offset: u32, buffer: &[u8]) -> Answer {
     unsafe {
         tfs_write(

@@ -24,13 +24,14 @@ pub(crate) fn reads(
     reads_in(known, image, name, offset, length, bytes)
 }
 
+/// Gives the count alone, which is what a trace holds of a write.
 pub(crate) fn write(
     image: &mut [u8],
     name: &[u8],
     offset: u32,
     bytes: &[u8],
 ) -> Result<u32, Refusal> {
-    write_in(known, image, name, offset, bytes)
+    write_in(known, image, name, offset, bytes).map(|written| written.count)
 }
 
 pub(crate) fn free_bytes(image: &[u8]) -> Result<u32, Refusal> {

@@ -12,5 +12,5 @@ mod volume;
 
 pub use directory::{create, format, free_bytes, list, remove, Listing};
 pub use layout::{BLOCK_SIZE, LARGEST_FILE, MAGIC, MOST_BLOCKS, SLOTS};
-pub use transfer::{read, write};
+pub use transfer::{blocks_met, read, write, Transferred};
 pub use volume::check;

@@ -6,8 +6,43 @@ use super::layout::{file_size, word, Block, BLOCK_SIZE};
 use super::volume::{checked, Open};
 use crate::Refusal;
 
-/// Copies content of a file from an offset on into a buffer and gives the count of bytes.
-pub fn read(image: &[u8], name: &[u8], offset: u32, buffer: &mut [u8]) -> Result<u32, Refusal> {
+/// What a granted read or write has moved.
+#[derive(Clone, Copy, Debug, PartialEq, Eq)]
+pub struct Transferred {
+    /// The count of bytes.
+    pub count: u32,
+    /// How many distinct content blocks of the file hold these bytes.
+    pub blocks: u32,
+}
+
+impl Transferred {
+    /// So many bytes of a file from an offset on. A sound inode lists no block twice, so that the
+    /// blocks that they meet in the file's order are distinct.
+    fn of(offset: u32, count: usize) -> Self {
+        let count = count as u32;
+        Self {
+            count,
+            blocks: blocks_met(offset, count, BLOCK_SIZE as u32),
+        }
+    }
+}
+
+/// How many blocks a range of so many bytes meets, from an offset on. The range ends below 2^32.
+pub const fn blocks_met(offset: u32, count: u32, block_size: u32) -> u32 {
+    if count == 0 {
+        return 0;
+    }
+    let (first, last) = (offset, offset + (count - 1));
+    last / block_size - first / block_size + 1
+}
+
+/// Copies content of a file from an offset on into a buffer.
+pub fn read(
+    image: &[u8],
+    name: &[u8],
+    offset: u32,
+    buffer: &mut [u8],
+) -> Result<Transferred, Refusal> {
     let runs = Runs::plan(checked, image, name, offset, buffer.len())?;
     let count = runs.left;
     let mut target = &mut buffer[..count];
@@ -16,11 +51,16 @@ pub fn read(image: &[u8], name: &[u8], offset: u32, buffer: &mut [u8]) -> Result
         part.copy_from_slice(&image[run]);
         target = rest;
     }
-    Ok(count as u32)
+    Ok(Transferred::of(offset, count))
 }
 
-/// Copies a buffer over the content of a file from an offset on and gives the count of bytes.
-pub fn write(image: &mut [u8], name: &[u8], offset: u32, buffer: &[u8]) -> Result<u32, Refusal> {
+/// Copies a buffer over the content of a file from an offset on.
+pub fn write(
+    image: &mut [u8],
+    name: &[u8],
+    offset: u32,
+    buffer: &[u8],
+) -> Result<Transferred, Refusal> {
     write_in(checked, image, name, offset, buffer)
 }
 
@@ -31,7 +71,7 @@ pub(super) fn write_in(
     name: &[u8],
     offset: u32,
     buffer: &[u8],
-) -> Result<u32, Refusal> {
+) -> Result<Transferred, Refusal> {
     let runs = Runs::plan(open, image, name, offset, buffer.len())?;
     let count = runs.left;
     let mut source = &buffer[..count];
@@ -40,7 +80,7 @@ pub(super) fn write_in(
         image[run].copy_from_slice(part);
         source = rest;
     }
-    Ok(count as u32)
+    Ok(Transferred::of(offset, count))
 }
 
 /// Tells whether a read into a buffer of some length would give exactly these bytes.

@@ -5,9 +5,18 @@ use crate::failure::Failure;
 use crate::files::{self, Prepared};
 use crate::image::Image;
 use crate::volume::LARGEST_FILE;
+use proved::tfs::{self, Transferred};
 use proved::trace::{kind, Entry, Record};
-use proved::{tfs, Refusal};
+use proved::Refusal;
 use std::path::{Path, PathBuf};
+
+/// What a read gives.
+pub struct Content {
+    /// The bytes.
+    pub bytes: Vec<u8>,
+    /// How many content blocks they lie in; a trace does not hold it.
+    pub blocks: u32,
+}
 
 /// Requests and their answers, behind those of a trace that they are to be added to.
 #[derive(Default)]
@@ -74,11 +83,11 @@ impl Session {
         name: &[u8],
         offset: u32,
         length: u32,
-    ) -> Result<Vec<u8>, Refusal> {
+    ) -> Result<Content, Refusal> {
         // A longer buffer would not hold more: no file has more bytes.
         let mut bytes = vec![0; length.min(LARGEST_FILE) as usize];
         let answer = tfs::read(volume, name, offset, &mut bytes);
-        bytes.truncate(answer.unwrap_or(0) as usize);
+        bytes.truncate(answer.map_or(0, |read| read.count) as usize);
         let entry = Entry {
             kind: kind::READ,
             offset: offset.into(),
@@ -86,17 +95,20 @@ impl Session {
             ..Entry::default()
         };
         self.note(entry, name, &bytes, answer.map(|_| 0))?;
-        answer.map(|_| bytes)
+        answer.map(|read| Content {
+            bytes,
+            blocks: read.blocks,
+        })
     }
 
-    /// Writes bytes into a file; the count.
+    /// Writes bytes into a file; of what it gives, the count is noted.
     pub fn write(
         &mut self,
         volume: &mut [u8],
         name: &[u8],
         offset: u32,
         bytes: &[u8],
-    ) -> Result<u32, Refusal> {
+    ) -> Result<Transferred, Refusal> {
         let answer = tfs::write(volume, name, offset, bytes);
         let entry = Entry {
             kind: kind::WRITE,
@@ -104,7 +116,7 @@ impl Session {
             ..Entry::default()
         };
         self.changed |= answer.is_ok();
-        self.note(entry, name, bytes, answer)?;
+        self.note(entry, name, bytes, answer.map(|written| written.count))?;
         answer
     }
 

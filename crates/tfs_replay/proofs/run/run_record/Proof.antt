@@ -23,7 +23,7 @@ returns c =
     let arg = step .before .before in
     let start = arg .before .before .before .before .before .before in
     let call = arg .before .before .call in
-    ran-create (now (start .args .image)) (now (start .args .trace)) (start .args .item) (start .pre .0) (start .pre .1) (step .create-step .result) (c .step-agrees .result) _ _ (c .step-agrees .ensures)
+    ran-create (now (start .args .image)) (now (start .args .trace)) (start .args .item) (start .pre .0) (start .pre .1) _ (c .step-agrees .result) _ _ (c .step-agrees .ensures)
     _ _ (call .given .1) (step .before .bytes-of .ensures) (step .create-step .ensures .0) (step .create-step .ensures .1)
 
 returns-2 : tie.Need-returns-2
@@ -51,14 +51,14 @@ returns-4 c =
     let arg = step .before .before in
     let start = arg .before .before .before .before .before .before .before in
     let call = arg .before .before .before .call4 in
-    ran-write (now (start .args .image)) (now (start .args .trace)) (start .args .item) (start .pre .0) (start .pre .1) (step .write-step .result) (c .step-agrees3 .result) _ _ (c .step-agrees3 .ensures)
+    ran-write (now (start .args .image)) (now (start .args .trace)) (start .args .item) (start .pre .0) (start .pre .1) _ (c .write-agrees .result) _ _ (c .write-agrees .ensures)
     _ _ _ _ (call .given .1) (step .before .bytes-of6 .ensures) (arg .before .bytes-of5 .ensures) (step .write-step .ensures .0) (step .write-step .ensures .1)
 
 returns-5 : tie.Need-returns-5
 returns-5 c =
     let step = c .before in
     let start = step .before .before .before .before .before .before in
-    ran-count (now (start .args .image)) (now (start .args .trace)) (start .args .item) (start .pre .0) (start .pre .1) (step .free-step .result) (c .step-agrees4 .result) (c .step-agrees4 .ensures)
+    ran-count (now (start .args .image)) (now (start .args .trace)) (start .args .item) (start .pre .0) (start .pre .1) _ (c .step-agrees3 .result) (c .step-agrees3 .ensures)
     (step .before .before .enum-told .given .1) (step .free-step .ensures .0)
 
 pub run-record-spec : {M : Type 1} → statement M

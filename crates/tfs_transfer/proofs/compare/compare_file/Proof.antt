@@ -34,7 +34,7 @@ returns-3 c =
     let found = c .before .before .before in
     let start = start found in
     let e = c .before .n .given .1 in
-    compare-refused (now (start .args .image)) (start .args .s) (start .args .offset) (start .args .len) _ (now (start .args .bytes)) (ap reachTold (sym e) ∙ found .reach-of .ensures .0) (subst (Found found) e (found .reach-of .ensures .1))
+    compare-refused (now (start .args .image)) (start .args .s) (start .args .offset) (start .args .len) _ (now (start .args .bytes)) (ap (reachTold _) (sym e) ∙ found .reach-of .ensures .0) (subst (Found found) e (found .reach-of .ensures .1))
 
 returns : tie.Need-returns
 returns c =
@@ -64,7 +64,6 @@ compare-file-spec =
     tie.close
     (tie.spec
     (λ c κs. search needs)
-    (λ c. search needs)
     (λ c. search needs)
     (λ c. search needs)
     returns
