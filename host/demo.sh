@@ -46,3 +46,11 @@ echo "One bit of the map is damaged: block 4 is marked free."
 printf '\x0f' | dd of=pump.img bs=1 seek=515 conv=notrunc status=none
 show check pump.img
 show get pump.img TIMING -
+
+echo
+echo "Power was taken in the middle of a create: the map has blocks of a file that is not there."
+show make chip.img --size 64K
+printf '\x3f' | dd of=chip.img bs=1 seek=515 conv=notrunc status=none
+show check chip.img
+show mend chip.img --in-place
+show check chip.img

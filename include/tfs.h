@@ -10,10 +10,12 @@
  *  - a pointer is valid for the length beside it: readable where it is const,
  *    readable and writable where it is not;
  *  - a pointer is not NULL; with length 0 it may be any other address;
- *  - the image, the name (or label) and the buffer of one call do not overlap;
+ *  - the image, the name (or label), the bytes and the buffer of one call do
+ *    not overlap;
  *  - nobody else writes to them during the call.
  * Nothing else is asked: a request has a defined answer for every value of
- * every number and every content of the image, the name and the buffer.
+ * every number and every content of the image, the name, the bytes and the
+ * buffer.
  *
  * A refused request changes no byte of the image or of the buffer.
  *
@@ -41,7 +43,8 @@ extern "C" {
 #define TFS_MAX_NAME 15u    /* bytes, none of them zero */
 
 /* The refusal of a result. 1 to 7 say that the volume is not consistent: the
- * first broken rule is given, at its lowest place. */
+ * first broken rule is given, at its lowest place (by tfs_mend: of the faults
+ * that it does not clear). */
 enum tfs_refusal {
     TFS_OK = 0,
     TFS_IMAGE_TOO_SHORT = 1,  /* image under 1,536 bytes */
@@ -60,14 +63,15 @@ enum tfs_refusal {
     TFS_NO_ROOM = 12,         /* too few free blocks */
     TFS_NO_SUCH_NAME = 13,
     TFS_NO_SUCH_SLOT = 14,    /* slot over 24 */
-    TFS_OFFSET_PAST_END = 15  /* offset greater than the file's size */
+    TFS_OFFSET_PAST_END = 15, /* offset greater than the file's size */
+    TFS_NO_SUCH_STORE = 32    /* k is 0 or past the last store, or the buffer is under 512 bytes */
 };
 
 /* The answer of a request. */
 typedef struct tfs_result {
     uint32_t refusal; /* an enum tfs_refusal; 0 is granted */
     uint32_t place;   /* the slot or block at fault (refusals 4 to 7), else 0 */
-    uint32_t value;   /* what is granted: an inode number, a count or free bytes; else 0 */
+    uint32_t value;   /* what is granted: an inode number, a count, free bytes or the number of a block; else 0 */
     uint32_t blocks;  /* of a granted read or write: in how many of the file's content blocks the bytes lie; else 0 */
 } tfs_result;
 
@@ -86,8 +90,8 @@ typedef struct tfs_slot {
  * Zeros blocks 0 to 2 and leaves the later blocks. Refusals: 1, 8. */
 tfs_result tfs_format(uint8_t *image, size_t image_length, const uint8_t *label, size_t label_length);
 
-/* Checks the volume. Every request below does this first and gives the
- * refusal of the check. Refusals: 1 to 7. */
+/* Checks the volume. Every request below but tfs_mend does this first and
+ * gives the refusal of the check. Refusals: 1 to 7. */
 tfs_result tfs_check(const uint8_t *image, size_t image_length);
 
 /* Creates a file of this size, all zeros, and gives its inode number, which
@@ -120,6 +124,57 @@ tfs_slot tfs_list(const uint8_t *image, size_t image_length, uint32_t slot);
 
 /* Gives the free bytes: 512 for each free block. */
 tfs_result tfs_free_bytes(const uint8_t *image, size_t image_length);
+
+/* ---- A volume on a memory chip, whose power may be taken at any moment
+ *
+ * A create, a remove and a write are each a series of stores of whole blocks,
+ * numbered from 1. The three requests below give the k-th store: in `value` the
+ * number of the block, and its 512 bytes at the start of the buffer, whose rest
+ * stays. The image stays. So a copy of the volume in memory drives the chip:
+ *
+ *     for (size_t k = 1;; k++) {
+ *         tfs_result store = tfs_create_store(image, length, name, name_length, size, k, block, sizeof block);
+ *         if (store.refusal == TFS_NO_SUCH_STORE && k > 1) break;  (the last store is done)
+ *         if (store.refusal != TFS_OK) return store.refusal;       (refused: nothing is stored)
+ *         program_block(store.value, block);                       (waits until it has been stored)
+ *     }
+ *     tfs_create(image, length, name, name_length, size);          (the copy follows)
+ *
+ * Every k is fetched from the same image, as it was before the request. A
+ * create has a store for each content block and 3 more, a remove has 2, a write
+ * as many as tfs_write tells in `blocks`: one that moves no byte has none, and
+ * its first answer is 32.
+ *
+ * After power-up read the chip and check. On refusal 7 mend, and if that is
+ * granted program block 1. Wherever the series was cut, mend is granted. Of a
+ * create or a remove all names, sizes and contents are then as before it, or all
+ * as after it (free blocks may hold other bytes than before); of a write each
+ * block is as before or as after. The chip must store a block wholly or not at
+ * all. tfs_create, tfs_remove and tfs_write themselves change the image byte by
+ * byte, in no promised order. */
+
+/* Gives the k-th store of tfs_create: the content blocks in the file's order,
+ * then inode, map and directory. Refusals: those of tfs_create, then 32. */
+tfs_result tfs_create_store(const uint8_t *image, size_t image_length, const uint8_t *name, size_t name_length,
+                            uint32_t size, size_t k, uint8_t *buffer, size_t buffer_length);
+
+/* Gives the k-th store of tfs_remove: directory, map. Refusals: those of
+ * tfs_remove, then 32. */
+tfs_result tfs_remove_store(const uint8_t *image, size_t image_length, const uint8_t *name, size_t name_length,
+                            size_t k, uint8_t *buffer, size_t buffer_length);
+
+/* Gives the k-th store of tfs_write of these bytes: each content block in which
+ * they lie, in the file's order. Refusals: those of tfs_write, then 32. */
+tfs_result tfs_write_store(const uint8_t *image, size_t image_length, const uint8_t *name, size_t name_length,
+                           uint32_t offset, const uint8_t *bytes, size_t bytes_length, size_t k, uint8_t *buffer,
+                           size_t buffer_length);
+
+/* Clears the set bits of the map, of blocks from 3 on in the volume, that no
+ * file claims, and no others; of a consistent volume it changes nothing. Refuses
+ * the first other fault as tfs_check does, and then changes nothing: a block
+ * that is claimed and not set is 7, whatever bits stand before it. It changes no
+ * byte outside block 1. Refusals: 1 to 7. */
+tfs_result tfs_mend(uint8_t *image, size_t image_length);
 
 #ifdef __cplusplus
 }

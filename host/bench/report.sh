@@ -38,17 +38,20 @@ fi
 cat <<'TEXT'
 
 All are run in turn in one process, in batches of about 0.1 ms, and the best batch of 2,000 rounds counts (of fewer rounds where
-one operation lasts long). Every request but format checks the whole volume first, so each time has a check in it.
+one operation lasts long). Every request but format and mend checks the whole volume first, and mend does the check's work on its
+way, so each time but format's has a check in it.
 
-Times less the check are differences of two measurements, and vary most from run to run. Of free bytes and of reads and writes of
-few bytes they are medians over all rounds, on eight volumes at eight places in a page; the reference's check is compiled into
-each of its requests, so that its difference is not its count alone. A dash stands for a ratio with a difference below the clock's
-noise.
+Times less the check are differences of two measurements, and vary most from run to run. Of free bytes, of reads and writes of
+few bytes, of stores and of mends they are medians over all rounds, on eight volumes at eight places in a page; the reference's
+check is compiled into each of its requests, so that its difference is not its count alone. A dash stands for a ratio with a
+difference below the clock's noise.
 
 A volume of 2 MiB is full when its 25 slots are used: 25 files of 65,024 bytes have 3,200 of its 4,093 blocks. There, create and
 remove are timed as remove and create. It is half full with 16 such files; solid where their blocks stand one after another, as
 create gives them, and scattered where they lie anywhere. Leftovers, where there are any, fill the name bytes behind the first
 zero of every slot.
+
+Before each mend the bits that it clears are set again, which is in its time.
 
 A replay checks the volume once; *one by one* is the same requests as separate calls of the proved library, each with its check,
 and with no comparison of the answers.

@@ -18,7 +18,7 @@
 #define VOLUME (TFS_MAX_BLOCKS * TFS_BLOCK_SIZE)
 #define DEEPEST 8
 
-static uint8_t image[VOLUME], buffer[TFS_MAX_FILE], rom[32 * (DEEPEST + 2)];
+static uint8_t image[VOLUME], buffer[TFS_MAX_FILE], block[TFS_BLOCK_SIZE], rom[32 * (DEEPEST + 2)];
 static uint8_t file[] = "A", link_name[] = "link", other[] = "NEW";
 /* A record of each kind, the last a read of the whole file; their numbers have five groups where they may. */
 static uint8_t trace[TFS_MAX_FILE + 256], out[256];
@@ -138,6 +138,13 @@ REQUEST(run_read, tfs_read(image, VOLUME, file, 1, 0, buffer, sizeof buffer))
 REQUEST(run_write, tfs_write(image, VOLUME, file, 1, 0, buffer, sizeof buffer))
 REQUEST(run_list, tfs_list(image, VOLUME, 24))
 REQUEST(run_free_bytes, tfs_free_bytes(image, VOLUME))
+REQUEST(run_content_store, tfs_create_store(image, VOLUME, other, 3, TFS_MAX_FILE, 1, block, sizeof block))
+REQUEST(run_inode_store, tfs_create_store(image, VOLUME, other, 3, TFS_MAX_FILE, 128, block, sizeof block))
+REQUEST(run_map_store, tfs_create_store(image, VOLUME, other, 3, TFS_MAX_FILE, 129, block, sizeof block))
+REQUEST(run_directory_store, tfs_create_store(image, VOLUME, other, 3, TFS_MAX_FILE, 130, block, sizeof block))
+REQUEST(run_remove_store, tfs_remove_store(image, VOLUME, file, 1, 2, block, sizeof block))
+REQUEST(run_write_store, tfs_write_store(image, VOLUME, file, 1, 1, buffer, sizeof buffer, 127, block, sizeof block))
+REQUEST(run_mend, (image[TFS_BLOCK_SIZE + 508] = 0x80, tfs_mend(image, VOLUME)))
 REQUEST(run_record_read, tfs_trace_read(trace, trace_length, 0).entry)
 REQUEST(run_record_write, tfs_trace_write(out, sizeof out, largest, other, 3, buffer, 64))
 REQUEST(run_rom_check, romfs_check(rom, sizeof rom))
@@ -157,6 +164,13 @@ static const struct {
     {"TFS write", run_write},
     {"TFS list", run_list},
     {"TFS free bytes", run_free_bytes},
+    {"TFS store of create: content", run_content_store},
+    {"TFS store of create: inode", run_inode_store},
+    {"TFS store of create: map", run_map_store},
+    {"TFS store of create: directory", run_directory_store},
+    {"TFS store of remove", run_remove_store},
+    {"TFS store of write", run_write_store},
+    {"TFS mend", run_mend},
     {"TFS record read", run_record_read},
     {"TFS record written", run_record_write},
     {"TFS replay", run_replay},

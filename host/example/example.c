@@ -1,5 +1,5 @@
-/* The main job of the libraries: a TFS volume is made, used and damaged, requests on it are recorded and replayed,
- * and a romfs image is read. */
+/* The main job of the libraries: a TFS volume is made, used and damaged, kept on a chip whose power is taken, requests
+ * on it are recorded and replayed, and a romfs image is read. */
 #include <stdio.h>
 #include <stdlib.h>
 #include <string.h>
@@ -20,6 +20,7 @@ static void say_refusal(uint32_t refusal, uint32_t place)
     case TFS_BAD_MAGIC: printf("wrong magic number\n"); break;
     case TFS_BLOCK_TWICE: printf("block %lu is claimed twice\n", p); break;
     case TFS_MAP_WRONG: printf("the map is wrong at block %lu\n", p); break;
+    case TFS_NAME_EXISTS: printf("the name stands already\n"); break;
     case TFS_NO_SUCH_NAME: printf("no file of that name\n"); break;
     case ROMFS_BAD_VOLUME_SUM: printf("wrong checksum of the volume\n"); break;
     default: printf("place %lu\n", p);
@@ -99,6 +100,86 @@ static void damage_volume(uint8_t *image, size_t length)
     done("check with a wrong map bit", tfs_check(image, length));
     *map ^= 1 << 6;
     done("check after repair", tfs_check(image, length));
+}
+
+/* A pretended memory chip, and how many blocks it stores before its power is taken. */
+typedef struct {
+    uint8_t bytes[65536];
+    unsigned stores_left;
+} chip;
+
+/* Stores a block; 0 if the power is gone. */
+static int program_block(chip *to, uint32_t number, const uint8_t *block)
+{
+    if (to->stores_left == 0)
+        return 0;
+    to->stores_left--;
+    memcpy(to->bytes + TFS_BLOCK_SIZE * number, block, TFS_BLOCK_SIZE);
+    return 1;
+}
+
+/* Creates a file on the chip, store by store; image is the copy of the volume in memory, which follows. */
+static void create_on_chip(chip *to, uint8_t *image, size_t length, const char *name, uint32_t size)
+{
+    uint8_t block[TFS_BLOCK_SIZE];
+
+    printf("stores of create %s:", name);
+    for (size_t k = 1;; k++) {
+        tfs_result store = tfs_create_store(image, length, TEXT(name), size, k, block, sizeof block);
+
+        if (store.refusal == TFS_NO_SUCH_STORE && k > 1)
+            break;
+        if (store.refusal != TFS_OK) {
+            printf(" none, ");
+            say_refusal(store.refusal, store.place);
+            return;
+        }
+        if (!program_block(to, store.value, block)) {
+            printf(" and the power is gone\n");
+            return;
+        }
+        printf(" %lu", (unsigned long)store.value);
+    }
+    printf("\n");
+    tfs_create(image, length, TEXT(name), size);
+}
+
+/* After power-up the chip is read and checked; where only the map has bits of a file that is not there, they go. */
+static void power_up(chip *from, uint8_t *image, size_t length)
+{
+    tfs_result answer;
+
+    memcpy(image, from->bytes, length);
+    answer = tfs_check(image, length);
+    done("check after power-up", answer);
+    if (answer.refusal != TFS_MAP_WRONG)
+        return;
+    answer = tfs_mend(image, length);
+    done("mend", answer);
+    if (answer.refusal != TFS_OK)
+        return;
+    from->stores_left = 1;
+    program_block(from, 1, image + TFS_BLOCK_SIZE);
+    done("check after mend", tfs_check(image, length));
+}
+
+/* The same create is made twice: the power is taken before its last store, and then not. */
+static void use_chip(void)
+{
+    static chip flash;
+    static uint8_t image[sizeof flash.bytes];
+
+    tfs_format(flash.bytes, sizeof flash.bytes, TEXT("CHIP"));
+    memcpy(image, flash.bytes, sizeof image);
+    flash.stores_left = 4;
+    create_on_chip(&flash, image, sizeof image, "TIMING", 1000);
+    power_up(&flash, image, sizeof image);
+    value("free bytes", tfs_free_bytes(image, sizeof image));
+    flash.stores_left = 5;
+    create_on_chip(&flash, image, sizeof image, "TIMING", 1000);
+    power_up(&flash, image, sizeof image);
+    value("free bytes", tfs_free_bytes(image, sizeof image));
+    create_on_chip(&flash, image, sizeof image, "TIMING", 1000);
 }
 
 /* A name means the file that has it now: none after a remove, a new one after a create. */
@@ -211,6 +292,7 @@ int main(void)
     use_volume(image, sizeof image);
     damage_volume(image, sizeof image);
     use_name_again(image, sizeof image);
+    use_chip();
     record_and_replay(image, sizeof image);
     read_rom();
     return 0;

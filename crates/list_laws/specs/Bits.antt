@@ -1,5 +1,5 @@
 -- One bit of a number.
-use mathlib.Core.Path.{_≡_, refl, ap, _∙_}
+use mathlib.Core.Path.{_≡_, refl, sym, ap, _∙_}
 use mathlib.Core.Logic.{_≢_}
 use Prim.Native.Nat.{ℕ, zero, suc, _+_, _*_, _/_, _%_, _^_, _<_}
 use native.Mathlib.Nat.{pow-succ', div-div-eq-div-mul, div-one}
@@ -109,3 +109,26 @@ bit-high a b (suc m) k h =
     ∙ bit-next (a * 2 ^ suc m + b) (m + k)
     ∙ ap (λ (x : ℕ). bitOf x (m + k)) f
     ∙ bit-high a (b / 2) m k (omega (arith, pow-succ' 2 m))
+
+-- what stands above the low m bits, by halves
+shift-next : (n m : ℕ) → n / 2 ^ suc m ≡ n / 2 / 2 ^ m
+shift-next n m = rw (pow-succ', ← div-div-eq-div-mul)
+
+pub bit-above : (n k v m : ℕ) → v < 2 → k < m → withBit n k v / 2 ^ m ≡ n / 2 ^ m
+unfolding withBit
+bit-above n k v zero h l = absurd (omega arith)
+bit-above n zero v (suc m) h l =
+    shift-next (n / 2 * 2 + v) m ∙ ap (λ (x : ℕ). x / 2 ^ m) (omega arith) ∙ sym (shift-next n m)
+bit-above n (suc k) v (suc m) h l =
+    shift-next (withBit (n / 2) k v * 2 + n % 2) m
+    ∙ ap (λ (x : ℕ). x / 2 ^ m) (half n (withBit (n / 2) k v) v)
+    ∙ bit-above (n / 2) k v m h (omega arith)
+    ∙ sym (shift-next n m)
+
+-- a number is told by its low m bits and what stands above them
+pub bits-tell : (m x y : ℕ) → x / 2 ^ m ≡ y / 2 ^ m → ((k : ℕ) → k < m → bitOf x k ≡ bitOf y k) → x ≡ y
+unfolding bitOf
+bits-tell zero x y e h = omega (arith, e)
+bits-tell (suc m) x y e h =
+    let q : x / 2 ≡ y / 2 = bits-tell m (x / 2) (y / 2) (sym (shift-next x m) ∙ e ∙ shift-next y m) (λ k l. h (suc k) (omega arith)) in
+    omega (arith, q, h 0 (omega arith))

@@ -1,10 +1,11 @@
-// TFS: files in an image that the caller holds. Every request but format runs the check first, and gives its fault where the volume is not consistent.
+// TFS: files in an image that the caller holds. Every request but format and mend runs the check first, and gives its fault where the volume is not consistent.
 mod answers; // answers.rt: the answers made of what the crates below give
 mod look; // look.rt: list on a consistent volume
+mod mends; // mends.rt: mend on a volume that is not
 
 ghost use mathlib.Core.Path.{_≡_};
 ghost use Rattle.tfs_spec.specs.Check.{check};
-ghost use Rattle.tfs_spec.specs.Requests.{format, create, remove, read, write, listAnswer, freeAnswer};
+ghost use Rattle.tfs_spec.specs.Requests.{format, create, remove, read, write, listAnswer, freeAnswer, creates, removes, writes, fetch, mend};
 ghost use Rattle.tfs_spec.specs.Replays.{replay};
 ghost use Rattle.tfs.specs.Told.{checkTold, CheckFits, answerTold, AnswerFits, transferTold, TransferFits, doneTold, DoneFits, listingTold, listedName, EntryFits, replayTold, ReplayFits};
 use crate::answers::answer_of;
@@ -13,10 +14,14 @@ use crate::answers::fault_of;
 use crate::answers::replay_of;
 use crate::answers::transfer_of;
 use crate::look::list_step;
+use crate::mends::mend_faulty;
 use tfs_change::create_step;
 use tfs_change::remove_step;
 use tfs_check::Verdict;
 use tfs_dir::names::label_allowed;
+use tfs_fetch::create::fetch_create;
+use tfs_fetch::remove::fetch_remove;
+use tfs_fetch::write::fetch_write;
 use tfs_layout::LOW_END;
 use tfs_layout::NAME;
 use tfs_replay::replay_records;
@@ -41,7 +46,7 @@ pub enum CheckAnswer {
     Refused(Fault),
 }
 
-// What create and free bytes answer: granted with a number, refused by its number, or an inconsistent volume with its fault.
+// What create, free bytes and the stores answer: granted with a number, refused by its number, or an inconsistent volume with its fault.
 pub enum Answer {
     Granted(u32),
     Refused(u32),
@@ -61,7 +66,7 @@ pub enum TransferAnswer {
     Inconsistent(Fault),
 }
 
-// What format and remove answer, which have no result.
+// What format, remove and mend answer, which have no result.
 pub enum Done {
     Granted,
     Refused(u32),
@@ -184,5 +189,54 @@ pub fn replay(image: &mut [u8], trace: &[u8]) -> ReplayAnswer
     match check(image) {
         CheckAnswer::Refused(f) => ReplayAnswer::Inconsistent(f),
         CheckAnswer::Consistent => replay_of(replay_records(image, trace)),
+    }
+}
+
+// ---- power taken in the middle: a create, a remove and a write as a series of stores of whole blocks, counted from 1
+
+// The k-th store of a create: the content blocks in the file's order, inode, map, directory. Granted with the number of its block, whose bytes stand at the start of the buffer then; the rest of the buffer stays.
+pub fn create_store(image: &[u8], name: &[u8], size: u32, k: usize, buf: &mut [u8]) -> Answer
+    ensures { λ r. ⌜ (answerTold r ≡ fetch 512 (now (image .entry)) (creates (now (name .entry)) size) k (now (buf .entry)) .answer) × (now (buf .exit) ≡ fetch 512 (now (image .entry)) (creates (now (name .entry)) size) k (now (buf .entry)) .buffer) × AnswerFits r ⌝ }
+{
+    match check(image) {
+        CheckAnswer::Refused(f) => Answer::Inconsistent(f),
+        CheckAnswer::Consistent => answer_of(fetch_create(image, name, size, k, buf)),
+    }
+}
+
+// The k-th store of a remove: directory, map. Granted as that of a create is.
+pub fn remove_store(image: &[u8], name: &[u8], k: usize, buf: &mut [u8]) -> Answer
+    ensures { λ r. ⌜ (answerTold r ≡ fetch 512 (now (image .entry)) (removes (now (name .entry))) k (now (buf .entry)) .answer) × (now (buf .exit) ≡ fetch 512 (now (image .entry)) (removes (now (name .entry))) k (now (buf .entry)) .buffer) × AnswerFits r ⌝ }
+{
+    match check(image) {
+        CheckAnswer::Refused(f) => Answer::Inconsistent(f),
+        CheckAnswer::Consistent => answer_of(fetch_remove(image, name, k, buf)),
+    }
+}
+
+// The k-th store of a write of the bytes: each content block in which they lie, in the file's order. Granted as that of a create is.
+pub fn write_store(
+    image: &[u8],
+    name: &[u8],
+    offset: u32,
+    bytes: &[u8],
+    k: usize,
+    buf: &mut [u8],
+) -> Answer
+    ensures { λ r. ⌜ (answerTold r ≡ fetch 512 (now (image .entry)) (writes (now (name .entry)) offset (now (bytes .entry))) k (now (buf .entry)) .answer) × (now (buf .exit) ≡ fetch 512 (now (image .entry)) (writes (now (name .entry)) offset (now (bytes .entry))) k (now (buf .entry)) .buffer) × AnswerFits r ⌝ }
+{
+    match check(image) {
+        CheckAnswer::Refused(f) => Answer::Inconsistent(f),
+        CheckAnswer::Consistent => answer_of(fetch_write(image, name, offset, bytes, k, buf)),
+    }
+}
+
+// Clears the set bits of the map that no file claims, or gives the first other fault and changes nothing.
+pub fn mend(image: &mut [u8]) -> Done
+    ensures { λ r. ⌜ (doneTold r ≡ mend 512 (now (image .entry)) .answer) × (now (image .exit) ≡ mend 512 (now (image .entry)) .image) × DoneFits r ⌝ }
+{
+    match check(image) {
+        CheckAnswer::Consistent => Done::Granted,
+        CheckAnswer::Refused(f) => mend_faulty(image, f),
     }
 }

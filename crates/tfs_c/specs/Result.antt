@@ -7,7 +7,7 @@ use Rattle.tfs.specs.Told.{listedName}
 use Rattle.tfs_c.specs.declared.TfsResult.{TfsResult}
 use Rattle.tfs_c.specs.declared.TfsSlot.{TfsSlot}
 
--- the refusal's number, 0 for granted; its place; the inode number, the count or the free bytes; the blocks that a transfer meets
+-- the refusal's number, 0 for granted; its place; the inode number, the count, the free bytes or a block's number; the blocks that a transfer meets
 abbrev pub result : ℕ → ℕ → ℕ → ℕ → TfsResult
 result num p x m = record { refusal = num; place = p; value = x; blocks = m }
 

@@ -158,6 +158,53 @@ pub extern "C" fn tfs_free_bytes(image: &[u8]) -> TfsResult
     of_answer(tfs::free_bytes(image))
 }
 
+// ---- power taken in the middle
+
+// The k-th store of tfs_create: the value is the number of its block, whose bytes stand at the start of the buffer then.
+#[no_mangle]
+pub extern "C" fn tfs_create_store(
+    image: &[u8],
+    name: &[u8],
+    size: u32,
+    k: usize,
+    buf: &mut [u8],
+) -> TfsResult
+    ensures { λ r. ⌜ (r ≡ resultOf (rules.fetch 512 (now (image .entry)) (rules.creates (now (name .entry)) size) k (now (buf .entry)) .answer)) × (now (buf .exit) ≡ rules.fetch 512 (now (image .entry)) (rules.creates (now (name .entry)) size) k (now (buf .entry)) .buffer) ⌝ }
+{
+    of_answer(tfs::create_store(image, name, size, k, buf))
+}
+
+// The k-th store of tfs_remove.
+#[no_mangle]
+pub extern "C" fn tfs_remove_store(image: &[u8], name: &[u8], k: usize, buf: &mut [u8]) -> TfsResult
+    ensures { λ r. ⌜ (r ≡ resultOf (rules.fetch 512 (now (image .entry)) (rules.removes (now (name .entry))) k (now (buf .entry)) .answer)) × (now (buf .exit) ≡ rules.fetch 512 (now (image .entry)) (rules.removes (now (name .entry))) k (now (buf .entry)) .buffer) ⌝ }
+{
+    of_answer(tfs::remove_store(image, name, k, buf))
+}
+
+// The k-th store of tfs_write of these bytes.
+#[no_mangle]
+pub extern "C" fn tfs_write_store(
+    image: &[u8],
+    name: &[u8],
+    offset: u32,
+    bytes: &[u8],
+    k: usize,
+    buf: &mut [u8],
+) -> TfsResult
+    ensures { λ r. ⌜ (r ≡ resultOf (rules.fetch 512 (now (image .entry)) (rules.writes (now (name .entry)) offset (now (bytes .entry))) k (now (buf .entry)) .answer)) × (now (buf .exit) ≡ rules.fetch 512 (now (image .entry)) (rules.writes (now (name .entry)) offset (now (bytes .entry))) k (now (buf .entry)) .buffer) ⌝ }
+{
+    of_answer(tfs::write_store(image, name, offset, bytes, k, buf))
+}
+
+// Clears the set bits of the map that no file claims.
+#[no_mangle]
+pub extern "C" fn tfs_mend(image: &mut [u8]) -> TfsResult
+    ensures { λ r. ⌜ (r ≡ resultOf (rules.mend 512 (now (image .entry)) .answer)) × (now (image .exit) ≡ rules.mend 512 (now (image .entry)) .image) ⌝ }
+{
+    of_done(tfs::mend(image))
+}
+
 // ---- list
 
 // A slot with no file, or the refusal of list.

@@ -99,8 +99,48 @@ fn request(given: Given, name: &[u8], buf: &mut [u8], image: &mut [u8]) -> Outco
         7 => listed(image, number),
         8 => of_answer(tfs::free_bytes(image)),
         9 => of_replay(tfs::replay(image, buf)),
+        15 => of_done(tfs::mend(image)),
         _ => refused(1000, 0),
     }
+}
+
+// Whether a request is that of a store: of a create, a remove or a write.
+fn is_store(request: u32) -> bool {
+    12 <= request && request <= 14
+}
+
+// The k-th store of a create, a remove or a write of the bytes.
+fn store(
+    given: Given,
+    name: &[u8],
+    bytes: &[u8],
+    k: usize,
+    buf: &mut [u8],
+    image: &[u8],
+) -> Outcome {
+    let number = given.number;
+    let request = given.request;
+    match request {
+        12 => of_answer(tfs::create_store(image, name, number, k, buf)),
+        13 => of_answer(tfs::remove_store(image, name, k, buf)),
+        _ => of_answer(tfs::write_store(image, name, number, bytes, k, buf)),
+    }
+}
+
+// The same with k and the bytes read, which stand behind the image.
+fn store_read(given: Given, name: &[u8], buf: &mut [u8], image: &[u8]) -> Outcome {
+    let k = packed::long_number() as usize;
+    let mut bytes = [0u8; 69632];
+    let n = packed::bytes(&mut bytes);
+    store(given, name, &bytes[0..n], k, buf, image)
+}
+
+// What a case's request gives.
+fn outcome(given: Given, name: &[u8], buf: &mut [u8], image: &mut [u8]) -> Outcome {
+    if is_store(given.request) {
+        return store_read(given, name, buf, image);
+    }
+    request(given, name, buf, image)
 }
 
 fn name_length(e: EntryAnswer) -> usize {
@@ -140,7 +180,7 @@ fn case_in(k: u32, name: &mut [u8], buf: &mut [u8], image: &mut [u8]) -> bool {
     let a = given.name;
     let b = given.buf;
     let c = given.image;
-    let got = request(given, &name[0..a], &mut buf[0..b], &mut image[0..c]);
+    let got = outcome(given, &name[0..a], &mut buf[0..b], &mut image[0..c]);
     compare(k, given, got, &image[0..c], &buf[0..b])
 }
 

@@ -94,6 +94,9 @@ fresh-marks b l = fresh-bit 512 b (omega arith) ∙ sym (or-false (ltb b 3))
 none-twice : (n : ℕ) → least (claimedTwice []) n ≡ n
 none-twice n = least-all (claimedTwice []) n (λ i l. tt)
 
+pub marks-is : (cs : List ℕ) → Within 4096 cs → Marks (setBits (formatMap 512) 1 cs) cs
+marks-is cs w = claim-marks (formatMap 512) cs [] fresh-long fresh-marks w
+
 module _ (cs : List ℕ) (w : Within 4096 cs) (n : ℕ) where
   -- rule 6: the lowest block claimed twice
   pub doubled-is : doubled (formatMap 512) cs n ≡ least (claimedTwice cs) n
@@ -103,6 +106,5 @@ module _ (cs : List ℕ) (w : Within 4096 cs) (n : ℕ) where
   pub differs-is : n ≤ 4096 → (v : View) → least (bitDiffers (v .map) (setBits (formatMap 512) 1 cs)) n ≡ least (badBit v cs) n
   unfolding bitDiffers
   differs-is small v =
-      let marks : Marks (setBits (formatMap 512) 1 cs) cs = claim-marks (formatMap 512) cs [] fresh-long fresh-marks w in
       least-cong (bitDiffers (v .map) (setBits (formatMap 512) 1 cs)) (badBit v cs) n
-      (λ b l. ap (λ (t : Bool). not (Bool·beq (mapBit (v .map) b) t)) (marks b (omega arith)))
+      (λ b l. ap (λ (t : Bool). not (Bool·beq (mapBit (v .map) b) t)) (marks-is cs w b (omega arith)))

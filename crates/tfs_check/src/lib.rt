@@ -1,6 +1,6 @@
 // The consistency check of a volume: the first broken rule, at its lowest place.
 mod header; // header.rt: rules 2 and 3, the header
-mod files; // files.rt: rule 5, the inodes of the files
+pub mod files; // files.rt: rule 5, the inodes of the files
 mod claims; // claims.rt: the blocks that the files claim
 
 ghost use mathlib.Core.Path.{_≡_};
@@ -23,7 +23,7 @@ use tfs_layout::dir_of;
 use tfs_layout::map_of;
 use tfs_map::compare::first_difference;
 
-// What the check finds: nothing, or the first broken rule and the lowest slot or block that breaks it.
+// What the check or mend finds: nothing, or the first broken rule and the lowest slot or block that breaks it.
 pub enum Verdict {
     Consistent,
     Broken(u32, u32),

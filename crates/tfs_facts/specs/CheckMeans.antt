@@ -387,7 +387,7 @@ module _ (B : ℕ) (img : List ℕ) where
       (λ num q l h. omega (arith, broken-from num q h .0))
 
   -- ---- a consistent volume is one with no rule broken
-  none-broken : Consistent B img → (num p : ℕ) → Broken B img num p → ⊥
+  pub none-broken : Consistent B img → (num p : ℕ) → Broken B img num p → ⊥
   none-broken c _ _ (short h) = omega (arith, c .long)
   none-broken c _ _ (unmagical h) = h (c .magical)
   none-broken c _ _ (unlabelled h) = h (c .labelled .0) (c .labelled .1) (c .labelled .2)

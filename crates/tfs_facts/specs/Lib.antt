@@ -3,6 +3,7 @@ pub mod Slots
 pub mod Claims
 pub mod CheckMeans
 pub mod MapWords
+pub mod Mends
 pub mod MapOnes
 pub mod Room
 pub mod Total
@@ -16,3 +17,4 @@ pub mod Names
 pub mod Lookups
 pub mod Chosen
 pub mod Forward
+pub mod Fetched

@@ -7,11 +7,11 @@ use mathlib.Core.List.{List, [], _∷_}
 use native.Mathlib.Omega.{arith}
 use native.Mathlib.Decide.{ℕ-discrete}
 use lib.ListN.{length, getD, set, length-set}
-use lib.Seq.{getD-set-same, getD-set-other, set-set, set-comm, set-getD}
-use lib.Dec.{eqb}
+use lib.Seq.{getD-set-same, getD-set-other, set-set, set-comm, set-getD, ext-getD}
+use lib.Dec.{T, eqb, eqb→eq}
 use borrow.Author.Tests.{eqb-false}
 use Rattle.lists.specs.Lists.{In, bitOf, withBit}
-use Rattle.list_laws.specs.Bits.{bit-same, bit-other, bit-stays, bit-again, bit-small, bit-comm}
+use Rattle.list_laws.specs.Bits.{bit-same, bit-other, bit-stays, bit-again, bit-small, bit-comm, bit-above, bits-tell}
 use Rattle.tfs_spec.specs.Layout.{mapByte, mapBit, setBit, setBits}
 
 digits : (c : ℕ) → c ≡ 32 * (c / 32) + 8 * (c % 32 / 8) + c % 8
@@ -166,3 +166,41 @@ setBits-undo (b ∷ bs) map d m h =
     (setBits-comm bs (setBit map b 1) b 1 0 (subst (λ (n : ℕ). mapByte b < n) (sym (length-setBit map b 1)) (m .0)) (omega arith) (omega arith) (d .0)
     ∙ ap (λ (x : List ℕ). setBits x 1 bs) (setBit-undo map b (m .0) (h b (inl refl))))
     ∙ setBits-undo bs map (d .1) (m .1) (λ c i. h c (inr i))
+
+-- ---- a map is told by its bits, and by what stands above the eight of each byte
+pub above-set : (map : List ℕ) (b v : ℕ) → mapByte b < length map → v < 2 → (i : ℕ) → getD (setBit map b v) i 0 / 256 ≡ getD map i 0 / 256
+unfolding setBit
+above-set map b v h two i =
+    elim (ℕ-discrete i (mapByte b)) [
+      | yes e ↦ (ap (λ (j : ℕ). getD (set map (mapByte b) (withBit (getD map (mapByte b) 0) (b % 8) v)) j 0 / 256) e
+          ∙ ap (λ (y : ℕ). y / 256) (getD-set-same map (mapByte b) (withBit (getD map (mapByte b) 0) (b % 8) v) 0 h)
+          ∙ bit-above (getD map (mapByte b) 0) (b % 8) v 8 two (omega arith)
+          ∙ ap (λ (j : ℕ). getD map j 0 / 256) (sym e))
+      | no e ↦ ap (λ (y : ℕ). y / 256) (getD-set-other map (mapByte b) i (withBit (getD map (mapByte b) 0) (b % 8) v) 0 e)
+    ]
+
+pub above-set-all : (bs map : List ℕ) (v : ℕ) → Mapped (length map) bs → v < 2 → (i : ℕ) → getD (setBits map v bs) i 0 / 256 ≡ getD map i 0 / 256
+above-set-all [] map v m two i = refl
+above-set-all (b ∷ bs) map v m two i =
+    above-set-all bs (setBit map b v) v (subst (λ (n : ℕ). Mapped n bs) (sym (length-setBit map b v)) (m .1)) two i ∙ above-set map b v (m .0) two i
+
+bit-same-test : (x y : ℕ) → x < 2 → y < 2 → eqb x 1 ≡ eqb y 1 → x ≡ y
+bit-same-test x y h k e =
+    elim (ℕ-discrete x 1) [
+      | yes p ↦ sym (eqb→eq y 1 (subst T e (subst (λ (z : ℕ). T (eqb z 1)) (sym p) tt)) ∙ sym p)
+      | no p ↦ elim (ℕ-discrete y 1) [
+        | yes q ↦ absurd (p (eqb→eq x 1 (subst T (sym e) (subst (λ (z : ℕ). T (eqb z 1)) (sym q) tt))))
+        | no q ↦ omega arith
+      ]
+    ]
+
+pub maps-same : (a b : List ℕ) → length a ≡ length b → ((i : ℕ) → getD a i 0 / 256 ≡ getD b i 0 / 256) → ((k : ℕ) → mapBit a k ≡ mapBit b k) → a ≡ b
+unfolding mapBit
+maps-same a b long above same = ext-getD 0 a b long (λ i l. bits-tell 8 (getD a i 0) (getD b i 0) (above i) (bit i))
+  where
+    bit : (i k : ℕ) → k < 8 → bitOf (getD a i 0) k ≡ bitOf (getD b i 0) k
+    bit i k h =
+        let at : mapByte (32 * (i / 4) + 8 * (3 - i % 4) + k) ≡ i = omega arith in
+        let low : (32 * (i / 4) + 8 * (3 - i % 4) + k) % 8 ≡ k = omega arith in
+        bit-same-test (bitOf (getD a i 0) k) (bitOf (getD b i 0) k) (bit-small (getD a i 0) k) (bit-small (getD b i 0) k)
+        (sym (cc (at, low)) ∙ same (32 * (i / 4) + 8 * (3 - i % 4) + k) ∙ cc (at, low))

@@ -99,6 +99,22 @@ free-rising map k (suc d) i j l h =
     (λ e. rising-cons k (freeFrom map (suc k) d) (λ m b. free-member map (suc k) d m b .low) (λ x y. free-rising map (suc k) d x y) i j l)
     h
 
+before-cons : (f : ℕ → ℕ) (k : ℕ) (l : List ℕ) → f k ≡ 1 → ((m : ℕ) → m < length l → sum f (getD l m 0) ≡ sum f (suc k) + m) → (m : ℕ) → m < suc (length l) → sum f (getD (k ∷ l) m 0) ≡ sum f k + m
+unfolding sum
+before-cons f k l e h zero b = omega arith
+before-cons f k l e h (suc m) b = omega (arith, h m (omega arith))
+
+-- as many are lower as stand before it, and those below k
+pub free-before : (map : List ℕ) (k d m : ℕ) → m < length (freeFrom map k d) → count (λ i. not (mapBit map i)) (getD (freeFrom map k d) m 0) ≡ count (λ i. not (mapBit map i)) k + m
+unfolding sum
+free-before map k zero m h = absurd (omega (arith, ap length (free-end map k)))
+free-before map k (suc d) m h =
+    let f : ℕ → ℕ = λ x. cond (not (mapBit map x)) 1 0 in
+    by-mark (λ l. m < length l → sum f (getD l m 0) ≡ sum f k + m) map k d
+    (λ e b. (let z : f k ≡ 0 = ap (λ (x : Bool). cond {A = ℕ} (not x) 1 0) e in omega (arith, free-before map (suc k) d m b)))
+    (λ e. before-cons f k (freeFrom map (suc k) d) (ap (λ (x : Bool). cond {A = ℕ} (not x) 1 0) e) (λ j b. free-before map (suc k) d j b) m)
+    h
+
 -- ---- a search for the next one
 -- x is the first free block at or after k
 pub free-cursor : (map : List ℕ) (k d x : ℕ) → FreeIn map k d x → ((i : ℕ) → k ≤ i → i < x → mapBit map i ≡ true) → freeFrom map k d ≡ x ∷ freeFrom map (suc x) (k + d - suc x)

@@ -1,24 +1,29 @@
 -- Requests leave bytes where they find bytes.
 use mathlib.Core.Path.{_≡_, sym, subst}
 use mathlib.Core.Bool.{Bool, true, false, cond}
-use Prim.Native.Nat.{ℕ, zero, suc, _+_, _-_, _*_, _/_, _%_, _≤_, _<_}
+use Prim.Native.Nat.{ℕ, zero, suc, _-_, _*_, _/_, _%_, _≤_, _<_}
 use mathlib.Core.List.{List, [], _∷_, _++_}
 use native.Mathlib.Omega.{arith}
 use native.Mathlib.Nat.{mul-le-mul-right}
 use lib.ListN.{length, getD, set, take, drop, List·getD-eq-default}
 use Rattle.lists.specs.Lists.{table, zeros, padTo, bytes4, words, part, withPart, storeAt}
 use Rattle.list_laws.specs.Bits.{with-lt}
+use Rattle.list_laws.specs.Test.{by-test, cond-yes, cond-no}
 use Rattle.tfs_spec.specs.Layout.{BlockSize, maxSize, blocks, block, setBlock, magic, setBit, setBits, setSlot, entry, inodeBlock, View, view, size, slotOf, freeSlot, place}
-use Rattle.tfs_spec.specs.Check.{Verdict, consistent, broken, check, fileClaims}
-use Rattle.tfs_spec.specs.Requests.{Answer, Outcome, counted, granted, refuse, checked, Store, storeAll, format, formatStores, zeroStores, placeStores, createStores, chosen, create, removeStores, remove, readBuffer, read, write}
+use Rattle.tfs_spec.specs.Check.{Verdict, consistent, broken, tooShort, stray, check, fileClaims}
+use Rattle.tfs_spec.specs.Requests.{Answer, Outcome, counted, granted, refuse, checked, Store, storeAll, format, formatStores, zeroStores, placeStores, createStores, chosen, create, removeStores, remove, readBuffer, read, write, Change, creates, removes, writes, perform, storesOf, kth, fetch, clearStrays, mended, mend}
 use Rattle.tfs_spec.specs.Consistent.{Bytes}
+use Rattle.tfs_spec.specs.Effects.{ByteRequest}
 use Rattle.tfs_facts.specs.CheckMeans.{check-means}
 use Rattle.tfs_facts.specs.Views.{view-n, view-map, view-dir}
 use Rattle.tfs_facts.specs.Chosen.{CreateGrant, Choice, choice}
+use Rattle.tfs_proofs.specs.Mending.{mend-image}
+use Rattle.tfs_proofs.specs.Storing.{fetch-none, fetch-buffer, missing}
+use Rattle.tfs_proofs.specs.FetchSame.{fetch-refused}
 use Rattle.tfs_proofs.specs.Transfers.{slotFor, transferView, read-as}
 use Rattle.tfs_proofs.specs.Numbers.{four-bytes}
 use Rattle.tfs_proofs.specs.Formats.{by-format}
-use Rattle.tfs_proofs.specs.Kept.{by-create, by-remove, by-write}
+use Rattle.tfs_proofs.specs.Kept.{granted-passed, by-create, by-remove, by-write}
 use Rattle.tfs_proofs.specs.WriteLists.{wr, putOf, request-image}
 use Rattle.tfs_spec.specs.Laws.{request}
 
@@ -185,6 +190,24 @@ module _ (B : ℕ) (sz : BlockSize B) (img : List ℕ) (bytes : Bytes img) where
       by-write B img nm o bs Bytes bytes
       (λ e. subst Bytes (sym (request-image B img e (wr nm o bs))) (of-all (storeAt (place B v s) img o put) (all-store (place B v s) put img o (all-take (size v s - o) bs (all-of bs k)) img-all)))
 
+  all-cleared : (k : ℕ) → All (clearStrays B (view B img) k)
+  unfolding clearStrays setBit
+  all-cleared zero = map-all
+  all-cleared (suc b) =
+      by-test (stray B (view B img) b)
+      (λ t. subst All (sym (cond-yes (stray B (view B img) b) _ _ t)) (all-bits (clearStrays B (view B img) b) 0 (b ∷ []) (omega arith) (all-cleared b)))
+      (λ t. subst All (sym (cond-no (stray B (view B img) b) _ _ t)) (all-cleared b))
+
+  pub mend-bytes : Bytes (mend B img .image)
+  unfolding mended setBlock
+  mend-bytes =
+      mend-image B sz img Bytes
+      (λ ok.
+      by-test (tooShort B img)
+      (λ t. subst Bytes (sym (cond-yes (tooShort B img) img _ t)) bytes)
+      (λ t. subst Bytes (sym (cond-no (tooShort B img) img _ t)) (of-all (withPart (1 * B) B (clearStrays B (view B img) (view B img .n)) img) (all-with (1 * B) B (clearStrays B (view B img) (view B img .n)) img (all-cleared (view B img .n)) img-all))))
+      bytes
+
   pub read-bytes : (nm : List ℕ) (o : ℕ) (buf : List ℕ) → Bytes buf → Bytes (read B img nm o buf .buffer)
   unfolding readBuffer
   read-bytes nm o buf k =
@@ -218,3 +241,24 @@ module _ (B : ℕ) (sz : BlockSize B) (few : B ≤ 65536) (img : List ℕ) (byte
       (all-stored B (createStores B (view B img) nm z) img
       (placed B (view B img) (freeSlot B (view B img)) nm z (chosen B (view B img) z) (map-all B sz img bytes) (dir-all B sz img bytes) (all-of nm k) (omega (arith, max-small B few, gr .small)) (blocks-small nm z e gr))
       (img-all B sz img bytes)))
+
+  -- a fetched block is one of the image after the request
+  change-bytes : (c : Change) → ByteRequest c → Bytes (perform B img c .image)
+  unfolding perform
+  change-bytes (creates nm z) k = create-bytes nm z k
+  change-bytes (removes nm) k = remove-bytes B sz img bytes nm
+  change-bytes (writes nm o bs) k = write-bytes B sz img bytes nm o bs k
+
+  pub fetch-bytes : (c : Change) (k : ℕ) (buf : List ℕ) → ByteRequest c → Bytes buf → Bytes (fetch B img c k buf .buffer)
+  unfolding block
+  fetch-bytes c k buf given h =
+      by-test (granted (perform B img c .answer))
+      (λ g.
+      by-test (missing B img c g k buf)
+      (λ t. subst (λ (o : Outcome). Bytes (o .buffer)) (sym (fetch-none B img c g k buf t)) h)
+      (λ t.
+      subst Bytes (sym (fetch-buffer B sz img (check-means B sz img .0 (granted-passed B img c g)) c g k buf t))
+      (let b : ℕ = kth k (storesOf B img c) .at in
+      of-all (part (b * B) B (perform B img c .image) ++ drop B buf)
+      (all-append (part (b * B) B (perform B img c .image)) (drop B buf) (all-part (b * B) B (perform B img c .image) (all-of (perform B img c .image) (change-bytes c given))) (all-drop B buf (all-of buf h))))))
+      (λ t. subst (λ (o : Outcome). Bytes (o .buffer)) (sym (fetch-refused B img c k buf t)) h)

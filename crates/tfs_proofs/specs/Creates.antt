@@ -96,26 +96,26 @@ module _ (B : ℕ) (sz : BlockSize B) (img : List ℕ) (ok : Consistent B img) (
   few : need B z ≤ numbers B
   few = need-le B z (numbers B) pos (gr .small)
 
-  picked : (b : ℕ) → In b cs → Picked B v b
+  pub picked : (b : ℕ) → In b cs → Picked B v b
   picked b p = let m = in-at cs b p in subst (Picked B v) (m .2) (at-cs (m .0) (m .1))
 
-  first : Picked B v i
+  pub first : Picked B v i
   first = at-cs 0 (omega (arith, length-cs))
 
-  at-b : (m : ℕ) → m < length bs → Picked B v (getD bs m 0)
+  pub at-b : (m : ℕ) → m < length bs → Picked B v (getD bs m 0)
   at-b m h = subst (Picked B v) (sym (at-bs m)) (at-cs (suc m) (omega (arith, length-cs, length-bs)))
 
   -- ---- the image after
-  abbrev ino : List ℕ
+  abbrev pub ino : List ℕ
   ino = inodeBlock B z bs
 
-  abbrev map′ : List ℕ
+  abbrev pub map′ : List ℕ
   map′ = setBits (v .map) 1 (i ∷ bs)
 
-  abbrev dir′ : List ℕ
+  abbrev pub dir′ : List ℕ
   dir′ = setSlot (v .dir) s (entry i nm)
 
-  abbrev lasts : List Store
+  abbrev pub lasts : List Store
   lasts = store i ino ∷ store 1 map′ ∷ store 2 dir′ ∷ []
 
   abbrev a0 : List ℕ
@@ -132,7 +132,7 @@ module _ (B : ℕ) (sz : BlockSize B) (img : List ℕ) (ok : Consistent B img) (
   inside-img : (b : ℕ) → b < v .n → b * B + B ≤ length img
   inside-img b h = in-image B b img (subst (λ (n : ℕ). b < n) (view-n B img) h)
 
-  fits0 : Fits B (length img) (zeroStores B bs)
+  pub fits0 : Fits B (length img) (zeroStores B bs)
   fits0 = zero-fits B bs (length img) (λ m h. inside-img (getD bs m 0) (at-b m h .inside .high))
 
   length-a0 : length a0 ≡ length img
@@ -141,7 +141,7 @@ module _ (B : ℕ) (sz : BlockSize B) (img : List ℕ) (ok : Consistent B img) (
   pub room-inode : 4 * (1 + length bs) ≤ B
   room-inode = omega (arith, few, length-bs, sz .large)
 
-  fits1 : Fits B (length img) lasts
+  pub fits1 : Fits B (length img) lasts
   fits1 = (
     length-inode B z bs room-inode,
     (

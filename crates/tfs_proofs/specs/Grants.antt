@@ -21,9 +21,10 @@ use Rattle.tfs_facts.specs.Claims.{count-some}
 use Rattle.tfs_facts.specs.CheckMeans.{check-means, same-means}
 use Rattle.tfs_facts.specs.Slots.{used-short, used-named, name-whole}
 use Rattle.tfs_facts.specs.Room.{free-cursor}
-use Rattle.tfs_spec.specs.Requests.{Request, changes, checks, reads, lists, counts, creates, removes, writes, perform, reply, checkAnswer, freeAnswer, Answer, done, value, transferred, unused, file, refused, granted, Outcome, refuse, Lookup, lookup, looked, freeFrom, chosen, createView, create, removeView, remove, counted, transferAnswer, read, write, listView, listAnswer, format, blocksMet}
-use Rattle.tfs_spec.specs.Answers.{LabelRule, NameRule, Stands, Fresh, Vacant, LowestBlock, FindRule, misnamed, absent, found, CreateRule, unnamed, oversized, standing, full, cramped, created, TransferRule, beyond, moved, ListRule, outside, vacant, holds, FormatRule, short, unlabelled, formatted, Rule}
+use Rattle.tfs_spec.specs.Requests.{Request, changes, fetches, checks, reads, lists, counts, Change, creates, removes, writes, perform, reply, checkAnswer, freeAnswer, Answer, done, value, transferred, unused, file, refused, granted, Outcome, refuse, Lookup, lookup, looked, freeFrom, chosen, createView, create, removeView, remove, counted, transferAnswer, read, write, listView, listAnswer, format, blocksMet}
+use Rattle.tfs_spec.specs.Answers.{LabelRule, NameRule, Stands, Fresh, Vacant, LowestBlock, FindRule, misnamed, absent, found, CreateRule, unnamed, oversized, standing, full, cramped, created, TransferRule, beyond, moved, ListRule, outside, vacant, holds, FormatRule, ChangeRule, short, unlabelled, formatted, Rule}
 use Rattle.tfs_facts.specs.Names.{slot-hit, slot-miss, slot-is, free-hit}
+use Rattle.tfs_proofs.specs.Fetching.{fetch-rule}
 use Rattle.tfs_proofs.specs.Meets.{meets}
 use Rattle.tfs_proofs.specs.Changes.{create-is, remove-is}
 use Rattle.tfs_facts.specs.Lookups.{lookup-misnamed, lookup-absent, lookup-there, by-lookup}
@@ -293,14 +294,19 @@ module _ (B : ℕ) (sz : BlockSize B) (img : List ℕ) (ok : Consistent B img) w
       find-rule B w (ok .sound) nm (TransferRule B w o len) (λ s. transferAnswer B w s o len) (λ s f. transfer-holds B pos w (ok .sound) o len s f) (λ s a f r. transfer-only B pos w (ok .sound) o len s f a r)
 
   -- an answer is given exactly in its case of the request's table
-  pub rule-reply : (r : Request) (a : Answer) → (reply B img r .answer ≡ a) ↔ Rule B (view B img) r a
-  unfolding perform removeView listAnswer checkAnswer freeAnswer
-  rule-reply (changes (creates nm z)) a =
+  change-reply : (c : Change) (a : Answer) → (perform B img c .answer ≡ a) ↔ ChangeRule B (view B img) c a
+  unfolding perform removeView
+  change-reply (creates nm z) a =
       iff-at (create B img nm z .answer) (createView B w nm z) a _ (ap (λ (o : Outcome). o .answer) (create-is B img passed nm z)) (create-rule B w (ok .sound) nm z a)
-  rule-reply (changes (removes nm)) a =
+  change-reply (removes nm) a =
       iff-at (remove B img nm .answer) (removeView B w nm) a _ (ap (λ (o : Outcome). o .answer) (remove-is B img passed nm)) (find-rule B w (ok .sound) nm (λ s b. done ≡ b) (λ s. done) (λ s _. refl) (λ s b _ e. e) a)
-  rule-reply (changes (writes nm o bs)) a =
+  change-reply (writes nm o bs) a =
       iff-at (write B img nm o bs .answer) (transferView B w nm o (length bs)) a _ (write-answer B img nm o bs passed) (transfer-rule nm o (length bs) a)
+
+  pub rule-reply : (r : Request) (a : Answer) → (reply B img r .answer ≡ a) ↔ Rule B (view B img) r a
+  unfolding listAnswer checkAnswer freeAnswer
+  rule-reply (changes c) a = change-reply c a
+  rule-reply (fetches c k buf) a = fetch-rule B sz img ok c k buf (change-reply c) a
   rule-reply checks a = iff-at (checkAnswer B img) done a _ (rw passed) ((λ e. e), λ e. e)
   rule-reply (reads nm o buf) a =
       iff-at (read B img nm o buf .answer) (transferView B w nm o (length buf)) a _ (read-answer B img nm o buf passed) (transfer-rule nm o (length buf) a)
@@ -309,11 +315,11 @@ module _ (B : ℕ) (sz : BlockSize B) (img : List ℕ) (ok : Consistent B img) w
 
   pub create-answers : (nm : List ℕ) (z : ℕ) (a : Answer) → (create B img nm z .answer ≡ a) ↔ CreateRule B (view B img) nm z a
   unfolding perform
-  create-answers nm z a = rule-reply (changes (creates nm z)) a
+  create-answers nm z a = change-reply (creates nm z) a
 
   pub remove-answers : (nm : List ℕ) (a : Answer) → (remove B img nm .answer ≡ a) ↔ FindRule B (view B img) nm (λ s b. done ≡ b) a
   unfolding perform
-  remove-answers nm a = rule-reply (changes (removes nm)) a
+  remove-answers nm a = change-reply (removes nm) a
 
 -- every name that stands is one that requests take
 pub stands-named : (B : ℕ) (img : List ℕ) → Consistent B img → (nm : List ℕ) (s : ℕ) → Stands B (view B img) nm s → NameRule nm

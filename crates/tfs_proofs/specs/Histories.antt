@@ -12,13 +12,16 @@ use Rattle.list_laws.specs.Test.{by-test, cond-yes, cond-no, and-l, and-r}
 use Rattle.lists.specs.Lists.{zeros}
 use Rattle.tfs_spec.specs.Layout.{BlockSize, slots, sameName, View, view, slotOf, contents}
 use Rattle.tfs_spec.specs.Consistent.{Consistent}
-use Rattle.tfs_spec.specs.Requests.{Answer, refused, granted, refuse, format, create, remove, read, write, Change, creates, removes, writes, perform, changes, checks, reads, lists, counts, Operation, formats, requests, operate, afterAll}
+use Rattle.tfs_spec.specs.Requests.{Answer, refused, granted, refuse, format, create, remove, read, write, Change, creates, removes, writes, perform, changes, fetches, checks, reads, lists, counts, Operation, formats, mends, requests, operate, afterAll}
 use Rattle.tfs_spec.specs.Answers.{NameRule}
 use Rattle.tfs_spec.specs.Effects.{over, effectOf, nameOn, transferOn, readBy}
 use Rattle.tfs_spec.specs.Histories.{Never, CreatesName, created, EndsName, removed, formatted, effectOn, effectOnAll, putBy, putByAll, HistoryLaws}
 use Rattle.tfs_facts.specs.CheckMeans.{check-means}
 use Rattle.tfs_facts.specs.Names.{name-refl, name-trans, slot-hit, slot-is}
 use Rattle.tfs_proofs.specs.Others.{stands-not}
+use Rattle.tfs_proofs.specs.Mending.{mend-image}
+use Rattle.tfs_proofs.specs.MendLaws.{mend-files}
+use Rattle.tfs_proofs.specs.Storing.{fetch-image}
 use Rattle.tfs_proofs.specs.Changes.{create-granted, refused-keeps, changed, stays-consistent}
 use Rattle.tfs_proofs.specs.Kept.{granted-passed}
 use Rattle.tfs_proofs.specs.Replies.{keeps}
@@ -55,6 +58,8 @@ module _ (B : ℕ) (sz : BlockSize B) (img : List ℕ) where
   any-consistent ok (formats label) =
       by-test (granted (format B img label .answer)) (format-consistent sz img label) (λ t. subst (Consistent B) (sym (format-refused B img label t)) ok)
   any-consistent ok (requests (changes c)) = stays-consistent B sz img ok c
+  any-consistent ok mends = mend-image B sz img (Consistent B) (λ new. new) ok
+  any-consistent ok (requests (fetches c k buf)) = subst (Consistent B) (sym (fetch-image B img c k buf)) ok
   any-consistent ok (requests checks) = ok
   any-consistent ok (requests (reads nm o buf)) = subst (Consistent B) (sym (read-image B img nm o buf)) ok
   any-consistent ok (requests (lists s)) = ok
@@ -77,6 +82,8 @@ module _ (B : ℕ) (sz : BlockSize B) (img : List ℕ) where
         by-test (granted (perform B img c .answer))
         (λ t. changed B sz img (granted-consistent c t) c t .contents nm ∙ cond-and (sameName nm (nameOn c)) (granted (perform B img c .answer)) (effectOf c old) old t)
         (λ t. ap (λ (x : List ℕ). contents B x nm) (refused-keeps B img c t) ∙ cond-not-and (sameName nm (nameOn c)) (granted (perform B img c .answer)) (effectOf c old) old t)
+    any-stands mends = mend-files B sz img nm
+    any-stands (requests (fetches c k buf)) = ap (λ (x : List ℕ). contents B x nm) (fetch-image B img c k buf)
     any-stands (requests checks) = refl
     any-stands (requests (reads k o buf)) = ap (λ (x : List ℕ). contents B x nm) (read-image B img k o buf)
     any-stands (requests (lists s)) = refl
@@ -92,6 +99,8 @@ module _ (B : ℕ) (sz : BlockSize B) (img : List ℕ) where
         (λ t. cond-no (sameName nm k && granted (perform B img (creates k z) .answer)) (some (zeros z)) none t)
     effect-none (requests (changes (removes k))) away = cond-same (sameName nm k && granted (perform B img (removes k) .answer)) none
     effect-none (requests (changes (writes k o bs))) away = cond-same (sameName nm k && granted (perform B img (writes k o bs) .answer)) none
+    effect-none mends away = refl
+    effect-none (requests (fetches c k buf)) away = refl
     effect-none (requests checks) away = refl
     effect-none (requests (reads k o buf)) away = refl
     effect-none (requests (lists s)) away = refl
@@ -124,6 +133,8 @@ module _ (B : ℕ) (sz : BlockSize B) (img : List ℕ) where
         (λ t. absurd (stays (removed k (and-l (sameName nm k) _ t) (and-r (sameName nm k) _ t))))
         (λ t. cond-no (sameName nm k && granted (remove B img k .answer)) none (some bytes) t)
     effect-some bytes e (requests (changes (writes k o bs))) stays = cond-some (sameName nm k && granted (write B img k o bs .answer)) (over o bs bytes) bytes
+    effect-some bytes e mends stays = refl
+    effect-some bytes e (requests (fetches c k buf)) stays = refl
     effect-some bytes e (requests checks) stays = refl
     effect-some bytes e (requests (reads k o buf)) stays = refl
     effect-some bytes e (requests (lists s)) stays = refl

@@ -15,7 +15,7 @@ use Rattle.list_laws.specs.Table.{table-cong}
 use Rattle.list_laws.specs.Word.{word-cong}
 use Rattle.list_laws.specs.Part.{part-long, getD-part, part-ext}
 use Rattle.tfs_spec.specs.Layout.{BlockSize, slots, numbers, maxSize, need, blocks, block, slot, slotInode, slotUsed, inRange, sameName, mapBit, magic, volumeName, nameAllowed, inodeSize, inodeNumber, View, view, viewN, inodeAt, free, used, inode, name, size, number, slotOf, freeSlot, place, freeBlocks}
-use Rattle.tfs_spec.specs.Check.{Verdict, consistent, broken, found, tooShort, badMagic, badLabel, repeats, badSlot, badNumber, badInode, fileClaims, claimsTo, claims, claimedTwice, badBit, checkView, check, times}
+use Rattle.tfs_spec.specs.Check.{Verdict, consistent, broken, found, tooShort, badMagic, badLabel, repeats, badSlot, badNumber, badInode, fileClaims, claimsTo, claims, claimedTwice, badBit, stray, checkView, check, times}
 use Rattle.tfs_spec.specs.Requests.{Answer, value, transferred, refused, unused, file, granted, checked, Outcome, readBuffer, Lookup, inSlot, denied, lookup, looked, freeFrom, chosen, createView, create, removeView, remove, counted, transferAnswer, read, write, listView, listAnswer, freeAnswer, refuse, blocksMet}
 use Rattle.tfs_facts.specs.Views.{view-n, view-head, view-map}
 use Rattle.tfs_spec.specs.Consistent.{Inside, Sound}
@@ -50,10 +50,10 @@ module _ (B : ℕ) (v w : View) (al : Alike B v w) where
     pub inode-alike : inode v t ≡ inode w t
     inode-alike = al .inode-same t h
 
-    name-alike : name v t ≡ name w t
+    pub name-alike : name v t ≡ name w t
     name-alike = al .name-same t h
 
-    free-alike : free v t ≡ free w t
+    pub free-alike : free v t ≡ free w t
     unfolding free inode name
     free-alike = same-free (slot (v .dir) t) (slot (w .dir) t) inode-alike name-alike
 
@@ -115,6 +115,10 @@ module _ (B : ℕ) (v w : View) (al : Alike B v w) where
       cond (not (eqb (word (w .head) 0) magic)) (broken 2 0)
       (cond (leb 16 (firstZero (volumeName (w .head)))) (broken 3 0)
       (found 4 (slots B) (least (badSlot w) (slots B)) (found 5 (slots B) (least (badInode B w) (slots B)) (found 6 n (least (claimedTwice (claimsTo B w (slots B))) n) (found 7 n (least (badBit w (claimsTo B w (slots B))) n) consistent)))))) (al .n)
+
+  pub stray-alike : (b : ℕ) → b < v .n → stray B v b ≡ stray B w b
+  unfolding stray claims
+  stray-alike b h = λ i. leb 3 b && (al .bits b h i && eqb (times b (all-claims (slots B) (omega arith) i)) 0)
 
   pub slot-of-alike : (nm : List ℕ) → slotOf B v nm ≡ slotOf B w nm
   unfolding slotOf

@@ -1,12 +1,12 @@
 -- Two images that differ at most in what the rules ignore differ in no more after any request, nor after any number of them.
 use mathlib.Core.Path.{_≡_, refl, sym, ap, _∙_, subst, subst₂}
 use mathlib.Core.Logic.{_≢_, _⊎_, inl, inr, ⊎-elim}
-use mathlib.Core.Bool.{not}
+use mathlib.Core.Bool.{false, not, cond, _&&_}
 use Prim.Native.Nat.{ℕ, zero, suc, _+_, _-_, _*_, _/_, _%_, _≤_, _<_}
 use mathlib.Core.List.{List, [], _∷_}
 use native.Mathlib.Omega.{arith}
 use native.Mathlib.Nat.{mul-le-mul-right}
-use native.Mathlib.Decide.{ℕ-discrete, decLt}
+use native.Mathlib.Decide.{ℕ-discrete, decLt, decLe}
 use lib.ListN.{length, getD, set, take, length-set}
 use lib.Seq.{getD-set-same, getD-set-other, set-out}
 use lib.Arith.{digits-div}
@@ -15,11 +15,12 @@ use Rattle.list_laws.specs.Test.{by-test}
 use Rattle.lists.specs.Lists.{storeAt, part, In}
 use Rattle.list_laws.specs.Part.{part-ext}
 use Rattle.tfs_spec.specs.Layout.{BlockSize, slots, need, blocks, block, slot, mapBit, View, view, inode, size, slotOf, freeSlot, place}
-use Rattle.tfs_spec.specs.Check.{check, consistent, fileClaims, tooShort}
+use Rattle.tfs_spec.specs.Check.{Verdict, check, consistent, broken, stray, fileClaims, tooShort}
 use Rattle.tfs_spec.specs.Consistent.{File, Consistent}
 use Rattle.tfs_facts.specs.CheckMeans.{check-means}
-use Rattle.tfs_spec.specs.Requests.{Answer, granted, format, chosen, create, remove, write, Change, creates, removes, writes, perform, changes, checks, reads, lists, counts, Operation, formats, requests, operate, afterAll}
-use Rattle.tfs_facts.specs.Views.{view-head, view-map, view-dir}
+use Rattle.tfs_spec.specs.Requests.{Answer, granted, format, chosen, create, remove, write, Change, creates, removes, writes, perform, Outcome, refuse, checked, mended, mend, changes, fetches, checks, reads, lists, counts, Operation, formats, mends, requests, operate, afterAll}
+use Rattle.tfs_facts.specs.Mends.{granting, mend-is, short-same, mended-long, mended-map, mended-other, mended-bit}
+use Rattle.tfs_facts.specs.Views.{view-n, view-head, view-map, view-dir}
 use Rattle.tfs_facts.specs.Stores.{block-byte}
 use Rattle.tfs_facts.specs.MapBits.{in-dec, in-at}
 use Rattle.tfs_proofs.specs.SlotBytes.{slot-ext, slot-kept, dir-long, same-slot}
@@ -31,7 +32,8 @@ use Rattle.tfs_spec.specs.Laws.{request}
 use Rattle.tfs_proofs.specs.Changes.{refused-keeps, remove-granted}
 use Rattle.tfs_spec.specs.Effects.{Kept, SameBytes, SameSlot, SameRead, BlockOf, RemoveTouch, CreateTouch}
 use Rattle.tfs_proofs.specs.Kept.{create-kept, remove-kept, granted-passed}
-use Rattle.tfs_proofs.specs.Ignored.{Alike, alike, size-alike, number-alike, inode-alike, slot-of-alike, slot-for-alike, free-slot-alike, chosen-alike, ignored}
+use Rattle.tfs_proofs.specs.Ignored.{Alike, alike, size-alike, number-alike, inode-alike, stray-alike, slot-of-alike, slot-for-alike, free-slot-alike, chosen-alike, ignored}
+use Rattle.tfs_proofs.specs.Storing.{fetch-image}
 use Rattle.tfs_proofs.specs.Formats.{format-refused, format-past, format-length, format-head, format-map, format-directory}
 use Rattle.tfs_proofs.specs.Tail.{format-answer}
 use Rattle.tfs_spec.specs.Answers.{Stands}
@@ -338,9 +340,51 @@ module _ (B : ℕ) (sz : BlockSize B) (a b : List ℕ) (same : SameRead B a b) w
                 ∙ sym (format-past sz b label (i * B + r) past));
           }
 
+  -- nor those that mend leaves
+  mended-after : After B a b (mended B a) (mended B b)
+  mended-after =
+      elim (decLe (3 * B) (length a)) [
+        | yes la ↦ (let lb : 3 * B ≤ length b = subst (λ (n : ℕ). 3 * B ≤ n) (same .long) la in
+            record {
+              long = mended-long B sz a la ∙ same .long ∙ sym (mended-long B sz b lb);
+              head = ap (part 0 20) (mended-other B sz a la 0 (λ e. omega arith)) ∙ same .head ∙ sym (ap (part 0 20) (mended-other B sz b lb 0 (λ e. omega arith)));
+              bits = λ i h. (ap (λ (m : List ℕ). mapBit m i) (mended-map B sz a la) ∙ mended-bit B sz a la i ∙ bit-same i (omega (arith, h, view-n B a, blocks-eq B (mended B a) a (mended-long B sz a la))) ∙ sym (mended-bit B sz b lb i) ∙ sym (ap (λ (m : List ℕ). mapBit m i) (mended-map B sz b lb)));
+              fate = λ t l. inr (ap (λ (d : List ℕ). slot d t) (mended-other B sz a la 2 (λ e. omega arith)), ap (λ (d : List ℕ). slot d t) (mended-other B sz b lb 2 (λ e. omega arith)));
+              rest = λ i l h. (mended-other B sz a la i (λ e. omega arith) ∙ same .rest i l (omega (arith, h, blocks-eq B (mended B a) a (mended-long B sz a la))) ∙ sym (mended-other B sz b lb i (λ e. omega arith)));
+            })
+        | no la ↦ subst₂ (After B a b) (sym (short-same B a (omega arith))) (sym (short-same B b (omega (arith, same .long)))) stay
+      ]
+    where
+      al : Alike B (view B a) (view B b)
+      al = alike B sz a b same
+
+      bit-same : (i : ℕ) → i < view B a .n → cond (ltb i (view B a .n) && stray B (view B a) i) false (mapBit (view B a .map) i) ≡ cond (ltb i (view B b .n) && stray B (view B b) i) false (mapBit (view B b .map) i)
+      bit-same i h = λ t. cond (ltb i (al .n t) && stray-alike B (view B a) (view B b) al i h t) false (al .bits i h t)
+
+  mended-check : check B (mended B a) ≡ check B (mended B b)
+  mended-check = ignored B sz (mended B a) (mended B b) (read-after B a b (mended B a) (mended B b) same mended-after) .check-same
+
+  pub mend-answer : mend B a .answer ≡ mend B b .answer
+  mend-answer =
+      ap (λ (o : Outcome). o .answer) (mend-is B a (check B (mended B b)) mended-check) ∙ go (check B (mended B b)) ∙ sym (ap (λ (o : Outcome). o .answer) (mend-is B b (check B (mended B b)) refl))
+    where
+      go : (x : Verdict) → checked x (refuse a []) (granting B a) .answer ≡ checked x (refuse b []) (granting B b) .answer
+      go consistent = refl
+      go (broken num p) = refl
+
+  mend-after : After B a b (mend B a .image) (mend B b .image)
+  mend-after =
+      subst₂ (λ (x y : Outcome). After B a b (x .image) (y .image)) (sym (mend-is B a (check B (mended B b)) mended-check)) (sym (mend-is B b (check B (mended B b)) refl)) (go (check B (mended B b)))
+    where
+      go : (x : Verdict) → After B a b (checked x (refuse a []) (granting B a) .image) (checked x (refuse b []) (granting B b) .image)
+      go consistent = mended-after
+      go (broken num p) = stay
+
   after-any : (x : Operation) → After B a b (operate B a x .image) (operate B b x .image)
   after-any (formats label) = format-after label
   after-any (requests (changes c)) = same-after c
+  after-any mends = mend-after
+  after-any (requests (fetches c k buf)) = subst₂ (After B a b) (sym (fetch-image B a c k buf)) (sym (fetch-image B b c k buf)) stay
   after-any (requests checks) = stay
   after-any (requests (reads nm o buf)) = subst₂ (After B a b) (sym (read-image B a nm o buf)) (sym (read-image B b nm o buf)) stay
   after-any (requests (lists s)) = stay

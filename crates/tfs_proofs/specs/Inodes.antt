@@ -11,14 +11,15 @@ use Rattle.list_laws.specs.Test.{by-test}
 use Rattle.tfs_spec.specs.Layout.{BlockSize, slots, mapBit, sameName, View, view, free, inode, name, size, slotOf, freeSlot}
 use Rattle.tfs_spec.specs.Check.{Verdict, consistent, broken, check}
 use Rattle.tfs_spec.specs.Consistent.{File, inodeOf, Consistent, FirstBroken}
-use Rattle.tfs_spec.specs.Requests.{Answer, value, file, refused, granted, Outcome, checked, storeAll, format, createStores, create, removeStores, remove, write, listAnswer, creates, removes, writes, perform, changes, checks, reads, lists, counts, Operation, formats, requests, operate, afterAll}
+use Rattle.tfs_spec.specs.Requests.{Answer, value, file, refused, granted, Outcome, checked, storeAll, format, createStores, create, removeStores, remove, write, listAnswer, creates, removes, writes, perform, mend, changes, fetches, checks, reads, lists, counts, Operation, formats, mends, requests, operate, afterAll}
 use Rattle.tfs_spec.specs.Answers.{Stands, CreateRule, unnamed, oversized, standing, full, cramped, created, ListRule, outside, vacant, holds}
-use Rattle.tfs_spec.specs.Histories.{Never, EndsName, removed, formatted, ShowsNone, GivesNumber, given, InodeLaws}
+use Rattle.tfs_spec.specs.Histories.{Never, EndsName, removed, formatted, ShowsNone, GivesNumber, given, mended, InodeLaws}
 use Rattle.tfs_spec.specs.Laws.{request}
 use Rattle.tfs_facts.specs.Claims.{slotIn}
-use Rattle.tfs_facts.specs.CheckMeans.{check-means, check-breaks}
+use Rattle.tfs_facts.specs.CheckMeans.{none-broken, check-means, check-breaks}
 use Rattle.tfs_facts.specs.Chosen.{CreateGrant}
 use Rattle.tfs_facts.specs.Names.{slot-hit, slot-is, free-hit}
+use Rattle.tfs_facts.specs.Mends.{sound-mend}
 use Rattle.tfs_proofs.specs.Frame.{Frame, file-to, file-from, name-same, inode-same, size-same}
 use Rattle.tfs_proofs.specs.WriteLists.{wr, request-view}
 use Rattle.tfs_proofs.specs.Creates as made
@@ -26,6 +27,9 @@ use Rattle.tfs_proofs.specs.Removes as gone
 use Rattle.tfs_proofs.specs.Changes.{create-granted, create-image, create-number, remove-granted, remove-image, refused-keeps}
 use Rattle.tfs_proofs.specs.Formats.{format-refused, format-consistent, format-free}
 use Rattle.tfs_proofs.specs.Transfers.{read-image}
+use Rattle.tfs_proofs.specs.Mending.{mend-refused}
+use Rattle.tfs_proofs.specs.MendLaws.{mend-consistent, mend-file}
+use Rattle.tfs_proofs.specs.Storing.{fetch-image}
 use Rattle.tfs_proofs.specs.Grants.{rule-reply, create-answers, stands-named}
 use Rattle.tfs_proofs.specs.Histories.{any-consistent, granted-consistent}
 use Rattle.tfs_proofs.specs.Replies.{fault-reply}
@@ -123,6 +127,8 @@ module _ (B : ℕ) (sz : BlockSize B) (img : List ℕ) (ok : Consistent B img) w
         (shown-to B img (storeAll B img (removeStores B v k)) (slotOf B v k) (gone.frame B sz img ok k hit) s d nm h z w))
         (λ r. subst After (sym (refused-keeps B img (removes k) r)) w)
     keeps (requests (changes (writes k o bs))) w stays = subst (λ (x : View). Shown B x s nm h z) (sym (write-view k o bs)) w
+    keeps mends w stays = subst After (sym (ap (λ (o : Outcome). o .image) (sound-mend B sz img ok))) w
+    keeps (requests (fetches c k buf)) w stays = subst After (sym (fetch-image B img c k buf)) w
     keeps (requests checks) w stays = w
     keeps (requests (reads k o buf)) w stays = subst After (sym (read-image B img k o buf)) w
     keeps (requests (lists t)) w stays = w
@@ -157,6 +163,8 @@ module _ (B : ℕ) (sz : BlockSize B) (img : List ℕ) (ok : Consistent B img) w
         shown-from B img (storeAll B img (removeStores B v k)) (slotOf B v k) (gone.frame B sz img ok k hit) s (gone.other B sz img ok k hit s (w′ .file)) nm h z w′)
         (λ r. subst After (refused-keeps B img (removes k) r) w)
     was (requests (changes (writes k o bs))) w new = subst (λ (x : View). Shown B x s nm h z) (write-view k o bs) w
+    was mends w new = subst After (ap (λ (o : Outcome). o .image) (sound-mend B sz img ok)) w
+    was (requests (fetches c k buf)) w new = subst After (fetch-image B img c k buf) w
     was (requests checks) w new = w
     was (requests (reads k o buf)) w new = subst After (read-image B img k o buf) w
     was (requests (lists t)) w new = w
@@ -226,10 +234,17 @@ module _ (B : ℕ) (sz : BlockSize B) (img : List ℕ) where
       subst T (c .0) (ok .sound .mapped h (c .1) .1 (inr (inodeOf s, (w .file, w .number))))
 
   -- a number that list shows nowhere, on a volume that breaks a rule
-  faulty : (h : ℕ) → ShowsNone B img h → (num p : ℕ) → FirstBroken B img num p → (x : Operation) → ShowsNone B (operate B img x .image) h
-  faulty h none num p first (formats label) =
+  faulty : (h : ℕ) → ShowsNone B img h → (num p : ℕ) → FirstBroken B img num p → (x : Operation) → (GivesNumber B h img x → ⊥) → ShowsNone B (operate B img x .image) h
+  faulty h none num p first (formats label) new =
       by-test (granted (format B img label .answer)) (λ g. empty label g h) (λ r. subst (λ (i : List ℕ). ShowsNone B i h) (sym (format-refused B img label r)) none)
-  faulty h none num p first (requests r) = subst (λ (o : Outcome). ShowsNone B (o .image) h) (sym (fault-reply B sz img num p first r)) none
+  faulty h none num p first mends new =
+      by-test (granted (mend B img .answer))
+      (λ g s z nm e.
+      let w : Shown B (view B (mend B img .image)) s nm h z = shown B sz (mend B img .image) (mend-consistent B sz img g) s nm h z .0 e in
+      let f = mend-file B sz img g s (w .file) in
+      new (mended s (λ ok. none-broken B img ok num p (first .here)) g (f .0) (sym (f .1) ∙ w .number)))
+      (λ r. subst (λ (i : List ℕ). ShowsNone B i h) (sym (mend-refused B sz img r)) none)
+  faulty h none num p first (requests r) new = subst (λ (o : Outcome). ShowsNone B (o .image) h) (sym (fault-reply B sz img num p first r)) none
 
   -- and on any
   none-step : (x : Operation) (h : ℕ) → ShowsNone B img h → (GivesNumber B h img x → ⊥) → ShowsNone B (operate B img x .image) h
@@ -239,7 +254,7 @@ module _ (B : ℕ) (sz : BlockSize B) (img : List ℕ) where
       go consistent p s z nm e =
           let ok : Consistent B img = check-means B sz img .0 p in
           none s z nm (shown B sz img ok s nm h z .1 (was B sz img ok s nm h z x (shown B sz (operate B img x .image) (any-consistent B sz img ok x) s nm h z .0 e) new))
-      go (broken num p) b s z nm e = faulty h none num p (check-breaks B sz img num p .0 b) x s z nm e
+      go (broken num p) b s z nm e = faulty h none num p (check-breaks B sz img num p .0 b) x new s z nm e
 
 -- ---- any list of them
 kept-after : (B : ℕ) → BlockSize B → (xs : List Operation) (img : List ℕ) (s z h : ℕ) (nm : List ℕ) → listAnswer B img s ≡ file nm h z → Never B (EndsName B nm) img xs → listAnswer B (afterAll B img xs) s ≡ file nm h z

@@ -15,7 +15,7 @@ use Rattle.list_laws.specs.Part.{part-long}
 use Rattle.list_laws.specs.Word.{word-cong}
 use Rattle.tfs_spec.specs.Layout.{BlockSize, slots, block, slot, slotInode, slotName, slotFree, nameField, sameName, mapBit, View, view, viewN, free, inode, name, slotOf, freeSlot}
 use Rattle.tfs_spec.specs.Consistent.{slotAt, Consistent}
-use Rattle.tfs_spec.specs.Requests.{granted, format, create, remove, Change, creates, removes, writes, perform, changes, checks, reads, lists, counts, Operation, formats, requests, operate, afterAll}
+use Rattle.tfs_spec.specs.Requests.{granted, format, create, remove, Change, creates, removes, writes, perform, changes, fetches, checks, reads, lists, counts, Operation, formats, mends, requests, operate, afterAll}
 use Rattle.tfs_spec.specs.Answers.{Stands, Vacant}
 use Rattle.tfs_spec.specs.Effects.{Leftover, behind, SameBytes, SameSlot, SameRead}
 use Rattle.tfs_spec.specs.Histories.{Never, EndsName, removed, formatted, TakesSlot, filled, wiped, SlotLaws}
@@ -25,6 +25,8 @@ use Rattle.tfs_facts.specs.Names.{name-refl}
 use Rattle.tfs_facts.specs.Slots.{bytes-before, same-names}
 use Rattle.tfs_proofs.specs.SlotBytes.{slot-byte, field-byte, slot-kept, dir-long}
 use Rattle.tfs_proofs.specs.Transfers.{read-image}
+use Rattle.tfs_proofs.specs.MendLaws.{mend-other}
+use Rattle.tfs_proofs.specs.Storing.{fetch-image}
 use Rattle.tfs_proofs.specs.WriteLists.{wr, request-view}
 use Rattle.tfs_proofs.specs.Changes.{refused-keeps, remove-granted}
 use Rattle.tfs_proofs.specs.Formats.{format-refused}
@@ -138,6 +140,8 @@ module _ (B : ℕ) (sz : BlockSize B) (s : ℕ) (img : List ℕ) where
   kept-or-set (requests (changes c)) =
       by-test (granted (perform B img c .answer)) (λ g. granted-sets c g (check-means B sz img .0 (granted-passed B img c g)))
       (λ r. inl (same-image B s _ img (refused-keeps B img c r)))
+  kept-or-set mends = inl (ap (λ (d : List ℕ). slot d s) (mend-other B sz img 2 (λ e. omega arith)))
+  kept-or-set (requests (fetches c k buf)) = inl (same-image B s _ img (fetch-image B img c k buf))
   kept-or-set (requests checks) = inl refl
   kept-or-set (requests (reads k o buf)) = inl (same-image B s _ img (read-image B img k o buf))
   kept-or-set (requests (lists t)) = inl refl

@@ -20,6 +20,13 @@ pub mod Kept
 pub mod Tail
 pub mod Ignored
 pub mod Grants
+pub mod Mending
+pub mod SameButMap
+pub mod MendLaws
+pub mod Prefixes
+pub mod WriteStores
+pub mod Storing
+pub mod Fetching
 pub mod Answers
 pub mod Touches
 pub mod Rooms
@@ -27,7 +34,10 @@ pub mod IgnoredSteps
 pub mod Leftovers
 pub mod Offsets
 pub mod Histories
+pub mod Cutting
 pub mod Inodes
+pub mod FetchSame
+pub mod MendTail
 pub mod Replies
 pub mod TraceNumbers
 pub mod TraceRecords

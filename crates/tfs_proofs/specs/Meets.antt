@@ -15,7 +15,7 @@ use Rattle.list_laws.specs.Sum.{count-image}
 use Rattle.tfs_spec.specs.Layout.{need, View, size, number, place}
 use Rattle.tfs_spec.specs.Consistent.{contentOf, File, Sound}
 use Rattle.tfs_spec.specs.Requests.{blocksMet}
-use Rattle.tfs_spec.specs.Answers.{BlocksMetLaws, holdsPart, Meets}
+use Rattle.tfs_spec.specs.Answers.{BlocksMetLaws, holdsPart, Meets, Nth}
 use Rattle.tfs_facts.specs.Sizes.{after-block, in-need, in-block}
 
 -- ---- the number
@@ -43,7 +43,7 @@ module _ (B : ℕ) (pos : 0 < B) where
   rising x y h = (le-div-iff-mul-le pos) .1 (omega (arith, starts x))
 
   -- the positions from o on lie in the blocks met, and each of these has one
-  within : (o c p : ℕ) → o ≤ p → p < o + c → (o / B ≤ p / B) × (p / B < o / B + blocksMet B o c)
+  pub within : (o c p : ℕ) → o ≤ p → p < o + c → (o / B ≤ p / B) × (p / B < o / B + blocksMet B o c)
   within o c p l h =
       (rising o p l, omega (arith, met-some B o c (omega arith), rising o p l, rising p (o + c - 1) (omega arith)))
 
@@ -134,7 +134,7 @@ module _ (B : ℕ) (pos : 0 < B) (v : View) (ok : Sound B v) (s o c : ℕ) (f : 
   met = blocksMet B o c
 
   -- no other owns a block that the file lists
-  once : (j k : ℕ) → j < need B (size v s) → k < need B (size v s) → number v s j ≡ number v s k → j ≡ k
+  pub once : (j k : ℕ) → j < need B (size v s) → k < need B (size v s) → number v s j ≡ number v s k → j ≡ k
   once j k l h e =
       let same : contentOf s j ≡ contentOf s k = ok .once (number v s k) (contentOf s j) (contentOf s k) (f, l, e) (f, h, refl) in cc
 
@@ -143,7 +143,7 @@ module _ (B : ℕ) (pos : 0 < B) (v : View) (ok : Sound B v) (s o c : ℕ) (f : 
   in-number p = digits-div (number v s (p / B)) (in-block B pos p)
 
   -- the blocks met are listed
-  listed : (k : ℕ) → k < met → o / B + k < need B (size v s)
+  pub listed : (k : ℕ) → k < met → o / B + k < need B (size v s)
   listed = met-below B pos (place B v s) (number v s) in-number o c (need B (size v s)) (λ p l. in-need B pos p (size v s) (omega arith))
 
   holds : (b : ℕ) → T (holdsPart B (place B v s) o c b) ↔ ((k : ℕ) × (k < met) × (number v s (o / B + k) ≡ b))
@@ -165,5 +165,23 @@ module _ (B : ℕ) (pos : 0 < B) (v : View) (ok : Sound B v) (s o c : ℕ) (f : 
         (λ k l. (
           (λ t. let j = holds (number v s k) .0 t in (j .0, j .1, once (o / B + j .0) k (listed (j .0) (j .1)) l (j .2))),
           λ j. holds (number v s k) .1 (j .0, j .1, ap (number v s) (j .2)),
+        ));
+  }
+
+  -- the i-th of them, from 0, is the file's block o / B + i
+  pub nth-met : (i : ℕ) → i < met → Nth (λ k. holdsPart B (place B v s) o c (number v s k)) i (o / B + i)
+  nth-met i h = record {
+    holds = holds (number v s (o / B + i)) .1 (i, h, refl);
+    before =
+        count-image (λ k. o / B + k) i (o / B + i)
+        (λ k l. omega arith)
+        (λ j k l m e. omega arith)
+        (λ k. holdsPart B (place B v s) o c (number v s k))
+        (λ b l. (
+          (λ t.
+              let j = holds (number v s b) .0 t in
+              let same : o / B + j .0 ≡ b = once (o / B + j .0) b (listed (j .0) (j .1)) (omega (arith, listed i h)) (j .2) in
+              (j .0, omega arith, same)),
+          λ k. holds (number v s b) .1 (k .0, omega (arith, k .1), ap (number v s) (k .2)),
         ));
   }

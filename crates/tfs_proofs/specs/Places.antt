@@ -1,20 +1,17 @@
 -- On a sound volume the places of all files' bytes are apart, and a write to a file keeps the view.
-use mathlib.Core.Path.{_≡_, refl, sym, ap, ap₂, _∙_, subst}
+use mathlib.Core.Path.{_≡_, refl, sym, ap, _∙_, subst}
 use mathlib.Core.Logic.{_≢_}
-use mathlib.Core.Bool.{cond}
 use Prim.Native.Nat.{ℕ, _+_, _*_, _/_, _%_, _<_, min}
-use mathlib.Core.List.{List, []}
+use mathlib.Core.List.{List}
 use native.Mathlib.Omega.{arith}
 use lib.ListN.{length}
-use Rattle.list_laws.specs.Test.{by-test, cond-no}
-use Rattle.lists.specs.Lists.{table}
-use Rattle.list_laws.specs.Table.{table-cong}
+use Rattle.list_laws.specs.Test.{by-test}
 use Rattle.list_laws.specs.Part.{part-ext}
-use Rattle.tfs_spec.specs.Layout.{slots, need, blocks, block, slot, slotInode, inRange, View, view, viewN, inodeAt, free, inode, size, number, place}
+use Rattle.tfs_spec.specs.Layout.{slots, need, blocks, block, slot, View, view, free, inode, size, number, place}
 use Rattle.tfs_spec.specs.Consistent.{File, inodeOf, contentOf, Owns, Inside, Sound}
-use Rattle.tfs_facts.specs.CheckMeans.{in-range}
 use Rattle.tfs_facts.specs.Sizes.{split-block, split-offset, rejoin, in-need, in-block, in-image}
-use Rattle.tfs_facts.specs.Views.{view-n, free-inode, has}
+use Rattle.tfs_facts.specs.Mends.{withMap, view-like}
+use Rattle.tfs_facts.specs.Views.{view-map, view-n, free-inode, has}
 use Rattle.tfs_proofs.specs.Writes.{Put, Files, Laid, step, length-step, step-other}
 
 abbrev pub filesOf : ℕ → View → Files
@@ -33,24 +30,8 @@ blocks-eq B a b e = ap (λ (l : ℕ). min (8 * B) (l / B)) e
 
 -- two images with the same blocks 0 to 2 and inodes have the same view
 pub view-eq : (B : ℕ) (a b : List ℕ) → length a ≡ length b → ((i : ℕ) → i < 3 → block B a i ≡ block B b i) → ((s : ℕ) → s < slots B → Inside (view B b) (inode (view B b) s) → block B a (inode (view B b) s) ≡ block B b (inode (view B b) s)) → view B a ≡ view B b
-unfolding view viewN inode inodeAt
 view-eq B a b len low inodes =
-    λ i. record { n = n i; head = low 0 (omega arith) i; map = low 1 (omega arith) i; dir = low 2 (omega arith) i; inodes = ino i }
-  where
-    n : blocks B a ≡ blocks B b
-    n = blocks-eq B a b len
-
-    at : (s : ℕ) → s < slots B → inodeAt B (blocks B a) a s ≡ inodeAt B (blocks B b) b s
-    at s h =
-        let i : ℕ = slotInode (slot (block B b 2) s) in
-        ap₂ (λ (m : ℕ) (d : List ℕ). cond (inRange m (slotInode (slot d s))) (block B a (slotInode (slot d s))) []) n (low 2 (omega arith))
-        ∙ by-test (inRange (blocks B b) i)
-        (λ t.
-        ap (λ (x : List ℕ). cond (inRange (blocks B b) i) x []) (inodes s h (in-range (view B b) i t)))
-        (λ t. cond-no {X = List ℕ} (inRange (blocks B b) i) (block B a i) [] t ∙ sym (cond-no {X = List ℕ} (inRange (blocks B b) i) (block B b i) [] t))
-
-    ino : table (inodeAt B (blocks B a) a) 0 (slots B) ≡ table (inodeAt B (blocks B b) b) 0 (slots B)
-    ino = table-cong (inodeAt B (blocks B a) a) (inodeAt B (blocks B b) b) 0 (slots B) (λ s h l. at s (omega arith))
+    view-like B b a len (low 0 (omega arith)) (low 2 (omega arith)) inodes ∙ ap (withMap (view B b)) (low 1 (omega arith) ∙ sym (view-map B b))
 
 -- a slot whose inode number is in range holds a file
 pub file-at : (B : ℕ) (v : View) (s : ℕ) → s < slots B → Inside v (inode v s) → File B v s

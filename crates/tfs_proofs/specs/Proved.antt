@@ -23,12 +23,16 @@ use Rattle.tfs_proofs.specs.Formats.{format-refused, format-grants, form
 use Rattle.tfs_proofs.specs.Reads.{transfer-law, covers}
 use Rattle.tfs_proofs.specs.Meets.{blocks-met-law}
 use Rattle.tfs_proofs.specs.Grants.{stands-at, fresh-high, label-allowed, name-allowed, format-rule, rule-reply}
-use Rattle.tfs_proofs.specs.Replies.{told-done, told-broken, granted-or-refused, faulty, fault-reply, numbered, list-only, keeps, kept, ignored-all, tail-kept-by, tail-unread-by}
+use Rattle.tfs_proofs.specs.Replies.{told-done, told-broken, granted-or-refused, faulty, fault-reply, numbered, list-only, fetch-only, keeps, kept, mend-kept, ignored-all, ignored-reads, tail-kept-by, tail-unread-by}
 use Rattle.tfs_proofs.specs.IgnoredSteps.{same-after-all, bytes-after-all}
 use Rattle.tfs_proofs.specs.Leftovers.{leftovers-ignored, slot-law}
 use Rattle.tfs_proofs.specs.Touches.{remove-touches, create-touches}
 use Rattle.tfs_proofs.specs.Rooms.{removed-room, created-room, written-room}
 use Rattle.tfs_proofs.specs.Histories.{history-law}
+use Rattle.tfs_proofs.specs.Mending.{mend-refused, mend-rule}
+use Rattle.tfs_proofs.specs.MendLaws.{mend-law}
+use Rattle.tfs_proofs.specs.Storing.{store-law}
+use Rattle.tfs_proofs.specs.Cutting.{cut-law}
 use Rattle.tfs_proofs.specs.Inodes.{inode-law}
 use Rattle.tfs_proofs.specs.TraceNumbers.{number-form, number-short, read-number}
 use Rattle.tfs_proofs.specs.TraceRecords.{read-string, read-record}
@@ -73,13 +77,16 @@ statements =
       refusal-laws = λ B sz img. record {
         numbered = numbered B sz img;
         list-only = list-only B sz img;
+        fetch-only = fetch-only B sz img;
         keeps = keeps B img;
         format-keeps = format-refused B img;
+        mend-keeps = mend-refused B sz img;
         granted-or-refused = granted-or-refused;
       };
       grant-laws = λ B sz img. record {
         answers = rule-reply B sz img;
         formatting = format-rule B img;
+        mending = mend-rule B sz img;
         name-allowed = name-allowed;
         label-allowed = label-allowed;
       };
@@ -106,7 +113,9 @@ statements =
           };
       kept-laws = λ B sz img. record {
         kept = kept B sz img;
+        mend-kept = mend-kept B sz img;
         ignored = ignored-all B sz img;
+        ignored-reads = ignored-reads B sz img;
         ignored-after = same-after-all B sz img;
         bytes-after = bytes-after-all B sz img;
         leftovers = leftovers-ignored B sz img;
@@ -119,6 +128,8 @@ statements =
         removed = stay.remove-bytes B sz img bytes;
         written = stay.write-bytes B sz img bytes;
         read-into = stay.read-bytes B sz img bytes;
+        mended = stay.mend-bytes B sz img bytes;
+        fetch-into = stay.fetch-bytes B sz small img bytes;
       };
       room-laws = λ B sz img ok. record {
         total = adds-up B sz img ok ∙ view-n B img;
@@ -136,6 +147,9 @@ statements =
       transfer-laws = transfer-law;
       blocks-met-laws = blocks-met-law;
       history-laws = history-law;
+      mend-laws = mend-law;
+      store-laws = store-law;
+      cut-laws = cut-law;
       inode-laws = inode-law;
       slot-laws = slot-law;
       trace-laws = record {

@@ -40,25 +40,25 @@ map-inside B sz img b h =
     in-map B b (sz .whole) (omega (arith, subst (λ (n : ℕ). b < n) (view-n B img) h))
 
 module _ (B : ℕ) (sz : BlockSize B) (img : List ℕ) (ok : Consistent B img) (nm : List ℕ) (hit : slotOf B (view B img) nm < slots B) where
-  abbrev v : View
+  abbrev pub v : View
   v = view B img
 
-  abbrev s : ℕ
+  abbrev pub s : ℕ
   s = slotOf B v nm
 
-  abbrev new : List ℕ
+  abbrev pub new : List ℕ
   new = storeAll B img (removeStores B v nm)
 
-  abbrev dir′ : List ℕ
+  abbrev pub dir′ : List ℕ
   dir′ = setSlot (v .dir) s (zeros 20)
 
-  abbrev map′ : List ℕ
+  abbrev pub map′ : List ℕ
   map′ = setBits (v .map) 0 (fileClaims B v s)
 
   the-file : File B v s
   the-file = slot-hit B v nm hit .0
 
-  fits : Fits B (length img) (store 2 dir′ ∷ store 1 map′ ∷ [])
+  pub fits : Fits B (length img) (store 2 dir′ ∷ store 1 map′ ∷ [])
   fits = (
     length-setSlot B (v .dir) s (zeros 20) (length-dir B img (ok .long)) hit refl,
     (
@@ -113,7 +113,7 @@ module _ (B : ℕ) (sz : BlockSize B) (img : List ℕ) (ok : Consistent B img) (
   other-owner o b w = other (slotIn o) (owns-file B v′ b o w)
 
   -- ---- the map
-  claims-mapped : Mapped (length (v .map)) (fileClaims B v s)
+  pub claims-mapped : Mapped (length (v .map)) (fileClaims B v s)
   claims-mapped =
       mapped-all (fileClaims B v s) (length (v .map))
       (λ b i.

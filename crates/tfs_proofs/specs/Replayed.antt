@@ -1,6 +1,6 @@
 -- Replay: what each result means, requests recorded and replayed, traces joined.
 use mathlib.Core.Path.{_≡_, refl, sym, ap, ap₂, _∙_, subst}
-use mathlib.Core.Logic.{_≢_, _↔_, _⊎_, inl, inr}
+use mathlib.Core.Logic.{_≢_, _↔_, _⊎_, inl, inr, ⊎-elim}
 use mathlib.Core.Bool.{Bool, true, false, not, cond, _&&_}
 use Prim.Native.Nat.{ℕ, zero, suc, _+_, _-_, _*_, _≤_, _<_, min}
 use mathlib.Core.List.{List, [], _∷_, _++_, append-assoc, append-nil}
@@ -322,6 +322,7 @@ module _ (B : ℕ) (sz : BlockSize B) (small : 8 * B * B ≤ 4294967296) (img : 
       (let w = refused-of (run B img c .answer) g in
       let n = numbered B sz img (requestOf c) (w .0) (w .1) (w .2) in
       let e : refusalOf (run B img c .answer) ≡ w .0 = ap refusalOf (w .2) in
+      let below : w .0 < 4294967296 = ⊎-elim (λ l. omega arith) (λ l. omega arith) (n .1) in
       record { fitting = of-refusal c (refusalOf (run B img c .answer)) (λ z. absurd (omega arith)); small = and-of (allBelow (callNumbers c)) (allBelow (refusalOf (run B img c .answer) ∷ [])) h (of-small (refusalOf (run B img c .answer)) [] (omega arith) tt) }))
 
 pub recorded-fits : (B : ℕ) → BlockSize B → 8 * B * B ≤ 4294967296 → (cs : List Call) → SmallCalls cs → (img : List ℕ) → Consistent B img → AllRecordable (recorded B img cs)

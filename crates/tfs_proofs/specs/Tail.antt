@@ -189,11 +189,11 @@ outcome-answer consistent img o = refl
 outcome-answer (broken num p) img o = refl
 
 -- as many blocks, and three or more, is long enough
-long-enough : (B : ℕ) → BlockSize B → (a b : List ℕ) → blocks B a ≡ blocks B b → 3 * B ≤ length a → 3 * B ≤ length b
+pub long-enough : (B : ℕ) → BlockSize B → (a b : List ℕ) → blocks B a ≡ blocks B b → 3 * B ≤ length a → 3 * B ≤ length b
 long-enough B size a b e h = omega (arith, in-image B 2 b (omega (arith, three B size a h)))
 
 module _ {B : ℕ} (size : BlockSize B) (a b : List ℕ) (same : SameVolume B a b) where
-  block-same : (i : ℕ) → i < blocks B a → block B a i ≡ block B b i
+  pub block-same : (i : ℕ) → i < blocks B a → block B a i ≡ block B b i
   unfolding block
   block-same i h =
       let la : length (block B a i) ≡ B = length-block B a i (in-image B i a h) in
@@ -244,7 +244,7 @@ module _ {B : ℕ} (size : BlockSize B) (a b : List ℕ) (same : SameVolume B a 
       go (broken num p) e =
           ap (λ (x : Verdict). g x (view B a)) e ∙ still num p (view B a) (view B b) ∙ ap (λ (x : Verdict). g x (view B b)) (sym e ∙ check-alike)
 
-  abbrev end : ℕ
+  abbrev pub end : ℕ
   end = blocks B b * B
 
   end-a : end ≤ length a
@@ -259,7 +259,7 @@ module _ {B : ℕ} (size : BlockSize B) (a b : List ℕ) (same : SameVolume B a 
       let n : blocks B a′ ≡ blocks B b = blocks-eq B a′ a la ∙ same .n in
       record { n = n ∙ sym (blocks-eq B b′ b lb); bytes = λ i h. g i (rw n at h) }
 
-  same-stored : (xs : List Store) → Fits B end xs → SameVolume B (storeAll B a xs) (storeAll B b xs)
+  pub same-stored : (xs : List Store) → Fits B end xs → SameVolume B (storeAll B a xs) (storeAll B b xs)
   same-stored xs f =
       same-after (storeAll B a xs) (storeAll B b xs)
       (length-storeAll B xs a (fits-up B end (length a) end-a xs f)) (length-storeAll B xs b (fits-up B end (length b) (volume-end B b) xs f))

@@ -26,10 +26,10 @@ module _ (B : ℕ) (pos : 0 < B) (img : List ℕ) (ok : Sound B (view B img)) (s
   abbrev new : List ℕ
   new = step (filesOf B v) img (put s o bs)
 
-  abbrev within : ℕ → Bool
+  abbrev pub within : ℕ → Bool
   within p = leb o p && ltb p (o + length bs)
 
-  covers-within : (p : ℕ) → p < size v s → covers (filesOf B v) (put s o bs) s p ≡ within p
+  pub covers-within : (p : ℕ) → p < size v s → covers (filesOf B v) (put s o bs) s p ≡ within p
   covers-within p l =
       iff-eq (covers (filesOf B v) (put s o bs) s p) (within p)
       (λ t.

@@ -66,6 +66,10 @@ claimedTwice cs b = leb 2 (times b cs)
 abbrev pub badBit : View → List ℕ → ℕ → Bool
 badBit v cs b = not (Bool·beq (mapBit (v .map) b) (ltb b 3 || leb 1 (times b cs)))
 
+-- "set bits that nobody claims": those of blocks 0 to 2, which are no fault, are not among them
+unfoldable pub stray : ℕ → View → ℕ → Bool
+stray B v b = leb 3 b && (mapBit (v .map) b && eqb (times b (claims B v)) 0)
+
 unfoldable pub checkView : ℕ → View → Verdict
 checkView B v =
     let cs : List ℕ = claims B v in

@@ -163,3 +163,24 @@ pub record FirstBroken (B : ℕ) (img : List ℕ) (num p : ℕ) : Type 0 where
   pub here : Broken B img num p
   pub earlier : (num′ q : ℕ) → num′ < num → Broken B img num′ q → ⊥
   pub lower : (q : ℕ) → q < p → Broken B img num q → ⊥
+
+-- ---- "set bits that nobody claims", and the faults that are none of these
+pub record Stray (B : ℕ) (v : View) (b : ℕ) : Type 0 where
+  pub inside : Inside v b
+  pub set : T (mapBit (v .map) b)
+  pub unowned : Owned B v b → ⊥
+
+-- rule num is broken at p, and not by such a bit
+pub record Other (B : ℕ) (img : List ℕ) (num p : ℕ) : Type 0 where
+  pub broken : Broken B img num p
+  pub other : num ≡ 7 → Stray B (view B img) p → ⊥
+
+-- all faults are such bits
+abbrev pub OnlyStrays : ℕ → List ℕ → Type 0
+OnlyStrays B img = (num p : ℕ) → Other B img num p → ⊥
+
+-- rule num is the first with another fault, and p the lowest place of one
+pub record FirstOther (B : ℕ) (img : List ℕ) (num p : ℕ) : Type 0 where
+  pub here : Other B img num p
+  pub earlier : (num′ q : ℕ) → num′ < num → Other B img num′ q → ⊥
+  pub lower : (q : ℕ) → q < p → Other B img num q → ⊥

@@ -10,7 +10,7 @@ use lib.Dec.{T, leb, ltb}
 use Rattle.lists.specs.Lists.{In, sum, table, joined, zeros, padTo, bytes4, words, part}
 use Rattle.tfs_spec.specs.Layout.{slots, need, blocks, block, mapBit, slot, sameName, inodeSize, inodeNumber, View, view, free, inode, name, size, number, content, Contents, contents, freeBlocks}
 use Rattle.tfs_spec.specs.Consistent.{Bytes, slotAt, File, Consistent}
-use Rattle.tfs_spec.specs.Requests.{Answer, done, value, transferred, refused, granted, Outcome, refuse, format, create, remove, blocksMet, read, write, Change, creates, removes, writes, perform, Operation, operate, afterAll}
+use Rattle.tfs_spec.specs.Requests.{Answer, done, value, transferred, refused, granted, Outcome, refuse, format, create, remove, blocksMet, read, write, Change, creates, removes, writes, perform, fetch, mend, Operation, operate, afterAll}
 use Rattle.tfs_spec.specs.Answers.{NameRule, Stands, Fresh, Vacant, Meets}
 
 -- ---- the content of files, and what stands under a name
@@ -146,7 +146,7 @@ pub record TransferLaws (B : ℕ) (img : List ℕ) : Type 0 where
   -- what a write leaves under names is in ChangeLaws, and that no other byte changes in Laws.antt
   pub writes : (nm : List ℕ) → NameRule nm → (o : ℕ) (bs : List ℕ) → write B img nm o bs .answer ≡ transferOn B (contents B img nm) o (length bs)
 
--- ---- what create, remove and write keep, and what no request looks at
+-- ---- what create, remove, write and mend keep, and what no request looks at
 -- "The rest [of block 0] is ignored"; "Bits from N on are ignored and kept"; "Bytes 500..511 are ignored and kept"
 pub record Kept (B : ℕ) (img new : List ℕ) : Type 0 where
   pub head : block B new 0 ≡ block B img 0
@@ -188,8 +188,10 @@ pub record SameVolume (B : ℕ) (a b : List ℕ) : Type 0 where
 -- of every image, consistent or not
 pub record KeptLaws (B : ℕ) (a : List ℕ) : Type 0 where
   pub kept : (c : Change) → Kept B a (perform B a c .image)
-  -- however many requests come, what is ignored has no say in any answer, nor in what read gives; and the images they leave differ in no more
-  pub ignored : (b : List ℕ) → SameRead B a b → (xs : List Operation) (x : Operation) → (operate B (afterAll B a xs) x .answer ≡ operate B (afterAll B b xs) x .answer) × (operate B (afterAll B a xs) x .buffer ≡ operate B (afterAll B b xs) x .buffer)
+  pub mend-kept : Kept B a (mend B a .image)
+  -- however many requests come, what is ignored has no say in any answer, nor in what read gives; and the images they leave differ in no more. (A store gives a whole block, with what is ignored in it)
+  pub ignored : (b : List ℕ) → SameRead B a b → (xs : List Operation) (x : Operation) → operate B (afterAll B a xs) x .answer ≡ operate B (afterAll B b xs) x .answer
+  pub ignored-reads : (b : List ℕ) → SameRead B a b → (xs : List Operation) (nm : List ℕ) (o : ℕ) (buf : List ℕ) → read B (afterAll B a xs) nm o buf .buffer ≡ read B (afterAll B b xs) nm o buf .buffer
   pub ignored-after : (b : List ℕ) → SameRead B a b → (xs : List Operation) → SameRead B (afterAll B a xs) (afterAll B b xs)
   -- and slots with the same bytes go on having the same bytes
   pub bytes-after : (b : List ℕ) → SameRead B a b → (t : ℕ) → t < slots B → SameBytes B a b t → (xs : List Operation) → SameBytes B (afterAll B a xs) (afterAll B b xs) t
@@ -200,12 +202,20 @@ pub record KeptLaws (B : ℕ) (a : List ℕ) : Type 0 where
   pub tail-unread : (b : List ℕ) → SameVolume B a b → (x : Operation) → (operate B a x .answer ≡ operate B b x .answer) × (operate B a x .buffer ≡ operate B b x .buffer) × SameVolume B (operate B a x .image) (operate B b x .image)
 
 -- ---- bytes stay bytes, where sizes fit into four of them
+-- what of a change must be bytes: the name of a create, what a write writes
+abbrev pub ByteRequest : Change → Type 0
+ByteRequest (creates nm z) = Bytes nm
+ByteRequest (removes nm) = Unit {0}
+ByteRequest (writes nm o bs) = Bytes bs
+
 pub record ByteLaws (B : ℕ) (img : List ℕ) : Type 0 where
   pub formatted : (label : List ℕ) → Bytes label → Bytes (format B img label .image)
   pub created : (nm : List ℕ) (z : ℕ) → Bytes nm → Bytes (create B img nm z .image)
   pub removed : (nm : List ℕ) → Bytes (remove B img nm .image)
   pub written : (nm : List ℕ) (o : ℕ) (bs : List ℕ) → Bytes bs → Bytes (write B img nm o bs .image)
   pub read-into : (nm : List ℕ) (o : ℕ) (buf : List ℕ) → Bytes buf → Bytes (read B img nm o buf .buffer)
+  pub mended : Bytes (mend B img .image)
+  pub fetch-into : (c : Change) (k : ℕ) (buf : List ℕ) → ByteRequest c → Bytes buf → Bytes (fetch B img c k buf .buffer)
 
 -- ---- room
 -- inodes and content blocks, "counted from the directory and inodes"

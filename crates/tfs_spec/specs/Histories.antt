@@ -7,9 +7,9 @@ use mathlib.Core.List.{List, [], _∷_}
 use mathlib.Core.Option.{Option, none, some}
 use lib.Dec.{T}
 use Rattle.lists.specs.Lists.{zeros}
-use Rattle.tfs_spec.specs.Layout.{sameName, view, size, contents}
-use Rattle.tfs_spec.specs.Consistent.{Consistent}
-use Rattle.tfs_spec.specs.Requests.{value, file, granted, refuse, format, create, remove, read, write, listAnswer, creates, removes, writes, perform, changes, checks, reads, lists, counts, Operation, formats, requests, operate, afterAll}
+use Rattle.tfs_spec.specs.Layout.{sameName, view, inode, size, contents}
+use Rattle.tfs_spec.specs.Consistent.{File, Consistent}
+use Rattle.tfs_spec.specs.Requests.{value, file, granted, refuse, format, create, remove, read, write, listAnswer, creates, removes, writes, perform, mend, changes, fetches, checks, reads, lists, counts, Operation, formats, mends, requests, operate, afterAll}
 use Rattle.tfs_spec.specs.Answers.{NameRule, Stands, Vacant}
 use Rattle.tfs_spec.specs.Effects.{over, effectOf, nameOn, readBy, SameBytes}
 
@@ -30,7 +30,9 @@ pub data EndsName (B : ℕ) (nm img : List ℕ) : Operation → Type 0 where
 -- what a request makes of what stands under nm
 abbrev pub effectOn : ℕ → List ℕ → List ℕ → Operation → Option (List ℕ) → Option (List ℕ)
 effectOn B nm img (formats label) old = cond (granted (format B img label .answer)) none old
+effectOn B nm img mends old = old
 effectOn B nm img (requests (changes c)) old = cond (sameName nm (nameOn c) && granted (perform B img c .answer)) (effectOf c old) old
+effectOn B nm img (requests (fetches c k buf)) old = old
 effectOn B nm img (requests checks) old = old
 effectOn B nm img (requests (reads k o buf)) old = old
 effectOn B nm img (requests (lists s)) old = old
@@ -44,9 +46,11 @@ effectOnAll B nm img (x ∷ xs) old = effectOnAll B nm (operate B img x .image) 
 -- a granted write by the name nm laid over a content; other requests leave it
 abbrev pub putBy : ℕ → List ℕ → List ℕ → Operation → List ℕ → List ℕ
 putBy B nm img (formats label) old = old
+putBy B nm img mends old = old
 putBy B nm img (requests (changes (creates k z))) old = old
 putBy B nm img (requests (changes (removes k))) old = old
 putBy B nm img (requests (changes (writes k o bs))) old = cond (sameName nm k && granted (write B img k o bs .answer)) (over o bs old) old
+putBy B nm img (requests (fetches c k buf)) old = old
 putBy B nm img (requests checks) old = old
 putBy B nm img (requests (reads k o buf)) old = old
 putBy B nm img (requests (lists s)) old = old
@@ -74,9 +78,10 @@ pub record HistoryLaws (B : ℕ) (img : List ℕ) : Type 0 where
 abbrev pub ShowsNone : ℕ → List ℕ → ℕ → Type 0
 ShowsNone B img h = (s z : ℕ) (nm : List ℕ) → listAnswer B img s ≢ file nm h z
 
--- a create that answers h
+-- a create that answers h, or a mend that makes a volume consistent in which a file has h: list shows its files from then on
 pub data GivesNumber (B h : ℕ) (img : List ℕ) : Operation → Type 0 where
   given : (nm : List ℕ) (z : ℕ) → create B img nm z .answer ≡ value h → GivesNumber B h img (requests (changes (creates nm z)))
+  mended : (s : ℕ) → (Consistent B img → ⊥) → T (granted (mend B img .answer)) → File B (view B img) s → inode (view B img) s ≡ h → GivesNumber B h img mends
 
 -- of every image, consistent or not: on a volume that is not, list shows nothing
 pub record InodeLaws (B : ℕ) (img : List ℕ) : Type 0 where
@@ -88,7 +93,7 @@ pub record InodeLaws (B : ℕ) (img : List ℕ) : Type 0 where
   -- two files of a volume never have the same number, nor the same name
   pub apart : (s t y z h : ℕ) (nm k : List ℕ) → listAnswer B img s ≡ file nm h y → listAnswer B img t ≡ file k h z → s ≡ t
   pub named : (s t y z h i : ℕ) (nm k : List ℕ) → T (sameName nm k) → listAnswer B img s ≡ file nm h y → listAnswer B img t ≡ file k i z → s ≡ t
-  -- a file stays in its slot with its name, number and size until it is removed or the volume is formatted; then the number is of no file, until a create answers it
+  -- a file stays in its slot with its name, number and size until it is removed or the volume is formatted; then the number is of no file, until a create answers it, or a mend makes a volume consistent that has a file with it
   pub kept : (xs : List Operation) (s z h : ℕ) (nm : List ℕ) → listAnswer B img s ≡ file nm h z → Never B (EndsName B nm) img xs → listAnswer B (afterAll B img xs) s ≡ file nm h z
   pub ended : (s z h : ℕ) (nm : List ℕ) → listAnswer B img s ≡ file nm h z → (x : Operation) → EndsName B nm img x → ShowsNone B (operate B img x .image) h
   pub none : (xs : List Operation) (h : ℕ) → ShowsNone B img h → Never B (GivesNumber B h) img xs → ShowsNone B (afterAll B img xs) h

@@ -14,6 +14,7 @@ use Rattle.tfs_spec.specs.Requests.{Answer, done, transferred, granted, 
 use Rattle.tfs_spec.specs.Answers.{CheckLaws, RefusalLaws, LabelRule, Stands, GrantLaws, BlocksMetLaws}
 use Rattle.tfs_spec.specs.Effects.{nameOn, ContentLaws, ChangeLaws, TouchLaws, FormatLaws, TransferLaws, SameSlot, KeptLaws, ByteLaws, RoomLaws}
 use Rattle.tfs_spec.specs.Histories.{HistoryLaws, InodeLaws, SlotLaws}
+use Rattle.tfs_spec.specs.Cuts.{StoreLaws, MendLaws, CutLaws}
 use Rattle.tfs_spec.specs.Traces.{TraceLaws}
 use Rattle.tfs_spec.specs.Replays.{ReplayLaws, LineLaws}
 
@@ -123,6 +124,7 @@ pub record Statements : Type 0 where
   pub history-laws : (B : ℕ) → BlockSize B → (img : List ℕ) → HistoryLaws B img
   pub inode-laws : (B : ℕ) → BlockSize B → (img : List ℕ) → InodeLaws B img
   pub slot-laws : (B : ℕ) → BlockSize B → (img : List ℕ) → SlotLaws B img
+  pub mend-laws : (B : ℕ) → BlockSize B → (img : List ℕ) → MendLaws B img
   pub replay-laws : (B : ℕ) → BlockSize B → (img : List ℕ) → ReplayLaws B img
   -- of images of three blocks or more, of images of bytes
   pub layout-laws : (B : ℕ) → BlockSize B → (img : List ℕ) → 3 * B ≤ length img → LayoutLaws B img
@@ -134,4 +136,6 @@ pub record Statements : Type 0 where
   pub touch-laws : (B : ℕ) → BlockSize B → (img : List ℕ) → Consistent B img → TouchLaws B img
   pub room-laws : (B : ℕ) → BlockSize B → (img : List ℕ) → Consistent B img → RoomLaws B img
   pub transfer-laws : (B : ℕ) → BlockSize B → (img : List ℕ) → Consistent B img → TransferLaws B img
+  pub store-laws : (B : ℕ) → BlockSize B → (img : List ℕ) → Consistent B img → (c : Change) → T (granted (perform B img c .answer)) → StoreLaws B img c
+  pub cut-laws : (B : ℕ) → BlockSize B → (img : List ℕ) → Consistent B img → CutLaws B img
   pub request-laws : (B : ℕ) → BlockSize B → (img : List ℕ) → Consistent B img → RequestLaws B img

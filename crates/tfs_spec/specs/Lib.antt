@@ -5,6 +5,7 @@ pub mod Consistent
 pub mod Answers
 pub mod Effects
 pub mod Histories
+pub mod Cuts
 pub mod Traces
 pub mod Replays
 pub mod Laws

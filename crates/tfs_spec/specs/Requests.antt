@@ -1,18 +1,18 @@
 -- The requests: for every input the answer, the image after and the buffer after.
-use mathlib.Core.Bool.{Bool, true, false, not, cond}
+use mathlib.Core.Bool.{Bool, true, false, not, cond, _||_}
 use Prim.Native.Nat.{ℕ, zero, suc, _+_, _-_, _*_, _/_, min}
 use mathlib.Core.List.{List, [], _∷_, _++_}
 use lib.ListN.{length, getD, take, drop}
 use lib.Dec.{ltb, eqb}
 use Rattle.lists.specs.Lists.{zeros, padTo, table, bytes4, storeAt}
-use Rattle.tfs_spec.specs.Layout.{slots, maxSize, need, setBlock, magic, mapBit, setBits, setSlot, entry, inodeBlock, labelAllowed, nameAllowed, View, view, free, inode, name, size, slotOf, freeSlot, place, freeBlocks}
-use Rattle.tfs_spec.specs.Check.{Verdict, consistent, broken, tooShort, check, fileClaims}
+use Rattle.tfs_spec.specs.Layout.{slots, maxSize, need, block, setBlock, magic, mapBit, setBit, setBits, setSlot, entry, inodeBlock, labelAllowed, nameAllowed, View, view, free, inode, name, size, number, slotOf, freeSlot, place, freeBlocks}
+use Rattle.tfs_spec.specs.Check.{Verdict, consistent, broken, tooShort, stray, check, fileClaims}
 
 -- "An answer is either granted with its result or refused with a reason"
 pub data Answer : Type 0 where
   -- granted, with no result
   done : Answer
-  -- granted, of create and free bytes: an inode number, free bytes; of writing a record its length
+  -- granted, of create and free bytes: an inode number, free bytes; of a store the number of its block; of writing a record its length
   value : ℕ → Answer
   -- granted, of read and write: the count, and how many content blocks their range meets
   transferred : ℕ → ℕ → Answer
@@ -48,6 +48,15 @@ countOf unused = 0
 countOf (file nm i z) = 0
 countOf (refused num p) = 0
 
+-- the blocks met of an answer
+abbrev pub metOf : Answer → ℕ
+metOf done = 0
+metOf (value x) = 0
+metOf (transferred c m) = m
+metOf unused = 0
+metOf (file nm i z) = 0
+metOf (refused num p) = 0
+
 -- what a request answers, and the image and the buffer that it leaves; [] where no buffer is lent for writing
 pub record Outcome : Type 0 where
   pub answer : Answer
@@ -58,7 +67,7 @@ pub record Outcome : Type 0 where
 abbrev pub refuse : List ℕ → List ℕ → ℕ → ℕ → Outcome
 refuse img buf num p = record { answer = refused num p; image = img; buffer = buf }
 
--- "Every request but format runs the check first and gives its refusal": that refusal, or what the request's step gives
+-- "Every request but format runs the check first and gives its refusal": that refusal, or what the request's step gives; of mend the check of the mended image
 abbrev pub checked : {A : Type 0} → Verdict → (ℕ → ℕ → A) → A → A
 checked consistent refusal step = step
 checked (broken num p) refusal step = refusal num p
@@ -249,7 +258,7 @@ unfoldable pub freeAnswer : ℕ → List ℕ → Answer
 freeAnswer B img = checked (check B img) refused (freeStep B img)
 
 -- ---- requests as values
--- those that change a volume, but for format
+-- those that change a volume, but for format and mend
 pub data Change : Type 0 where
   -- name and size
   creates : List ℕ → ℕ → Change
@@ -263,9 +272,59 @@ perform B img (creates nm z) = create B img nm z
 perform B img (removes nm) = remove B img nm
 perform B img (writes nm o bs) = write B img nm o bs
 
--- every request but format
+-- ---- power taken in the middle: "each create, remove and write as a numbered series of whole-block stores"
+-- "write each met content block in file order": each as it is after the write
+unfoldable pub writeStores : ℕ → View → List ℕ → ℕ → ℕ → List ℕ → List Store
+writeStores B v img s o buf =
+    let met : ℕ = blocksMet B o (counted v s o (length buf)) in
+    table (λ k. store (number v s k) (block B (writeImage B v img s o buf) (number v s k))) (o / B) met
+
+-- those of a granted change
+abbrev pub storesOf : ℕ → List ℕ → Change → List Store
+storesOf B img (creates nm z) = createStores B (view B img) nm z
+storesOf B img (removes nm) = removeStores B (view B img) nm
+storesOf B img (writes nm o bs) = writeStores B (view B img) img (slotOf B (view B img) nm) o bs
+
+-- the k-th, counted from 1
+abbrev pub kth : ℕ → List Store → Store
+kth k xs = getD xs (k - 1) (store 0 [])
+
+-- "a k of 0 or past the last, or a buffer under one block, is refused 32"; "its block number, and its bytes into the start of a lent buffer. The image stays"
+unfoldable pub fetchStore : ℕ → List ℕ → List Store → ℕ → List ℕ → Outcome
+fetchStore B img xs k buf =
+    let given : Outcome = record { answer = value (kth k xs .at); image = img; buffer = kth k xs .bytes ++ drop B buf } in
+    cond (eqb k 0 || (ltb (length xs) k || ltb (length buf) B)) (refuse img buf 32 0) given
+
+-- "After the request's own refusals"
+unfoldable pub fetch : ℕ → List ℕ → Change → ℕ → List ℕ → Outcome
+fetch B img c k buf =
+    let a : Answer = perform B img c .answer in
+    let refusal : Outcome = record { answer = a; image = img; buffer = buf } in
+    cond (granted a) (fetchStore B img (storesOf B img c) k buf) refusal
+
+-- the image after a cut behind the first j stores; a refused request has none
+unfoldable pub cut : ℕ → List ℕ → Change → ℕ → List ℕ
+cut B img c j = cond (granted (perform B img c .answer)) (storeAll B img (take j (storesOf B img c))) img
+
+-- ---- mend: "clears exactly such bits"
+-- the map with the stray bits below k clear
+unfoldable pub clearStrays : ℕ → View → ℕ → List ℕ
+clearStrays B v zero = v .map
+clearStrays B v (suc b) = let m : List ℕ = clearStrays B v b in cond (stray B v b) (setBit m b 0) m
+
+unfoldable pub mended : ℕ → List ℕ → List ℕ
+mended B img = cond (tooShort B img) img (setBlock B img 1 (clearStrays B (view B img) (view B img .n)))
+
+-- "and refuses the first other fault as the check does": what the check finds once these bits are clear
+unfoldable pub mend : ℕ → List ℕ → Outcome
+mend B img = checked (check B (mended B img)) (refuse img []) (record { answer = done; image = mended B img; buffer = [] })
+
+-- ---- every request as a value
+-- every request but format and mend
 pub data Request : Type 0 where
   changes : Change → Request
+  -- of a change the k-th store, into a buffer
+  fetches : Change → ℕ → List ℕ → Request
   checks : Request
   -- name, offset and buffer
   reads : List ℕ → ℕ → List ℕ → Request
@@ -275,6 +334,7 @@ pub data Request : Type 0 where
 -- the buffer that is lent for writing
 abbrev pub lent : Request → List ℕ
 lent (changes c) = []
+lent (fetches c k buf) = buf
 lent checks = []
 lent (reads nm o buf) = buf
 lent (lists s) = []
@@ -286,19 +346,22 @@ tell img a = record { answer = a; image = img; buffer = [] }
 
 abbrev pub reply : ℕ → List ℕ → Request → Outcome
 reply B img (changes c) = perform B img c
+reply B img (fetches c k buf) = fetch B img c k buf
 reply B img checks = tell img (checkAnswer B img)
 reply B img (reads nm o buf) = read B img nm o buf
 reply B img (lists s) = tell img (listAnswer B img s)
 reply B img counts = tell img (freeAnswer B img)
 
--- any request, format too
+-- any request, format and mend too
 pub data Operation : Type 0 where
   -- label
   formats : List ℕ → Operation
+  mends : Operation
   requests : Request → Operation
 
 abbrev pub operate : ℕ → List ℕ → Operation → Outcome
 operate B img (formats label) = format B img label
+operate B img mends = mend B img
 operate B img (requests r) = reply B img r
 
 -- "each request gets the image the last one left"

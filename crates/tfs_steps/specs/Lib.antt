@@ -1,5 +1,4 @@
 pub mod Told
-pub mod Refuses
 pub mod Format
 pub mod Place
 pub mod Erase

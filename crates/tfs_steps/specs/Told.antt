@@ -1,4 +1,4 @@
--- What the step of create, remove and free bytes answers, in the rules' terms.
+-- What the step of create, remove, free bytes and the stores answers, in the rules' terms.
 use Prim.Native.Nat.{_≤_}
 use Rattle.tfs_spec.specs.Requests.{Answer, done, value, refused}
 use Rattle.tfs_steps.specs.declared.Step.{Step}

@@ -5,7 +5,7 @@ pub mod place; // place.rt: a file placed
 pub mod erase; // erase.rt: a file erased
 pub mod free; // free.rt: free bytes
 
-// What create, remove and free bytes answer once the check is passed: granted with a number (0 where there is no result), or refused by its number.
+// What create, remove, free bytes and the stores answer once the check is passed: granted with a number (0 where there is no result), or refused by its number.
 pub enum Step {
     Granted(u32),
     Refused(u32),

@@ -32,11 +32,11 @@ module _ (v : View) (s z o len : ℕ) (e : z ≡ size v s) where
   moves c g m = record { starts = omega arith; count = omega arith }
 
 module _ {v : View} {s o len c : ℕ} (a : Moves v s o len c) where
-  counted-is : counted v s o len ≡ c
+  pub counted-is : counted v s o len ≡ c
   unfolding counted
   counted-is = sym (a .count)
 
-  reach : o + c ≤ size v s
+  pub reach : o + c ≤ size v s
   reach = omega (arith, a .starts, a .count)
 
   pub allowed : transferAnswer 512 v s o len ≡ transferred c (blocksMet 512 o c)

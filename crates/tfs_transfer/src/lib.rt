@@ -26,7 +26,7 @@ pub enum Moved {
 }
 
 // How far a transfer reaches: how many bytes it moves and how many blocks the file has with its inode's, or the refusal's number.
-enum Reach {
+pub enum Reach {
     Bytes(usize, usize),
     Refused(u32),
 }
@@ -41,7 +41,13 @@ fn count_of(len: usize, size: u32, offset: u32) -> usize
 }
 
 // How far a transfer with a buffer of len bytes reaches in the file in slot s, whose blocks go to the front of list.
-fn reach_of(image: &[u8], s: usize, offset: u32, len: usize, list: &mut [u32; FILE_BLOCKS]) -> Reach
+pub fn reach_of(
+    image: &[u8],
+    s: usize,
+    offset: u32,
+    len: usize,
+    list: &mut [u32; FILE_BLOCKS],
+) -> Reach
     requires { ⌜ (check 512 (now image) ≡ consistent) × File 512 (view 512 (now image)) s ⌝ }
     ensures { λ r. ⌜ (reachTold offset r ≡ transferAnswer 512 (view 512 (now (image .entry))) s offset len) × Reaches (now (image .entry)) s offset len (now (list .exit)) r ⌝ }
 {

@@ -6,6 +6,7 @@ use std::hint::black_box;
 use reference::tfs::{BLOCK_SIZE, MOST_BLOCKS};
 
 use crate::race::Race;
+use crate::table::{ns, ratio};
 
 /// Gives a number for a volume, which may be changed but keeps its files and their sizes.
 pub type Ask = dyn FnMut(&mut [u8]) -> u32;
@@ -79,4 +80,28 @@ fn lane(rounds: &[Vec<f64>], way: usize) -> Times {
 fn median(mut times: Vec<f64>) -> f64 {
     times.sort_by(f64::total_cmp);
     times[times.len() / 2]
+}
+
+/// The heads of a table with the times of two programs, whole and less the check.
+pub fn heads(first: &str, one: &str, two: &str) -> String {
+    let heads = format!("{one} ns | {two} ns | {one} / {two}");
+    format!(
+        "{first} | {heads} | less check: {}",
+        heads.replace("| ", "| less check: ")
+    )
+}
+
+/// The cells under them.
+pub fn cells(times: &[Times]) -> [String; 6] {
+    let [one, two] = times else {
+        unreachable!("two programs");
+    };
+    [
+        ns(one.whole),
+        ns(two.whole),
+        ratio(one.whole, two.whole),
+        ns(one.less_check),
+        ns(two.less_check),
+        ratio(one.less_check, two.less_check),
+    ]
 }

@@ -5,7 +5,7 @@
 //! ```
 //!
 //! Each time is the best of R rounds (2000 unless given, fewer where one lasts long), in which the proved request, the
-//! reference and what else is timed beside them take turns; of free bytes and of few bytes less the check it is the median.
+//! reference and what else is timed beside them take turns; of free bytes, few bytes, stores and mends less the check it is the median.
 //! Nothing passes or fails by time.
 
 #![deny(unsafe_code)]
@@ -14,6 +14,7 @@ mod less_check;
 mod linked;
 mod on_romfs;
 mod on_room;
+mod on_stores;
 mod on_tfs;
 mod on_traces;
 mod on_transfers;
@@ -40,6 +41,8 @@ fn main() -> ExitCode {
     on_transfers::few_bytes(rounds);
     #[cfg(before)]
     on_transfers::beside_before(rounds);
+    on_stores::stores(rounds);
+    on_stores::mends(rounds);
     on_room::free_bytes(rounds);
     on_tfs::growth(rounds);
     on_traces::replays(rounds);

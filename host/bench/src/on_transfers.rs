@@ -4,10 +4,10 @@ use std::hint::black_box;
 
 use reference::tfs::{LARGEST_FILE, MOST_BLOCKS};
 
-use crate::less_check::{times, Times, Way};
+use crate::less_check::{cells, heads, times, Times, Way};
 #[cfg(before)]
 use crate::linked;
-use crate::table::{ns, ratio, Table};
+use crate::table::Table;
 use crate::volumes::{with_files, with_files_anywhere};
 
 /// The requests of a program that move content; each gives the count.
@@ -110,11 +110,7 @@ pub fn beside_before(rounds: usize) {
 /// The times of two programs, and how many times as long the first takes.
 fn compared(rounds: usize, programs: [Program; 2], ranges: &[Range]) -> Table {
     let [one, two] = programs.map(|program| program.name);
-    let heads = format!("{one} ns | {two} ns | {one} / {two}");
-    let mut table = Table::new(&format!(
-        "request | {heads} | less check: {}",
-        heads.replace("| ", "| less check: ")
-    ));
+    let mut table = Table::new(&heads("request", one, two));
     for range in ranges {
         let mut row = |request: &str, mut ways: [Way; 2]| {
             let times = measured(rounds, range, &mut ways);
@@ -150,18 +146,4 @@ fn measured(rounds: usize, range: &Range, ways: &mut [Way]) -> Vec<Times> {
         true => with_files(MOST_BLOCKS, sizes),
         false => with_files_anywhere(MOST_BLOCKS, sizes, seed),
     })
-}
-
-fn cells(times: &[Times]) -> [String; 6] {
-    let [one, two] = times else {
-        unreachable!("two programs");
-    };
-    [
-        ns(one.whole),
-        ns(two.whole),
-        ratio(one.whole, two.whole),
-        ns(one.less_check),
-        ns(two.less_check),
-        ratio(one.less_check, two.less_check),
-    ]
 }

@@ -57,4 +57,30 @@ impl Comparison {
             Err(difference) => Err(Stop::Differs(difference)),
         }
     }
+
+    /// Stops with a request that both sides have answered against a promise.
+    pub(crate) fn broken(asked: Asked<'_>, broken: &'static str) -> Stop {
+        let Asked {
+            pair,
+            request,
+            arguments,
+            answer,
+        } = asked;
+        Stop::Differs(Box::new(Difference {
+            request,
+            arguments: arguments.clone(),
+            image_length: pair.image().len(),
+            answers: [answer; 2],
+            at: [None; 4],
+            broken: Some(broken),
+        }))
+    }
+}
+
+/// A request that has been made, and its answer.
+pub(crate) struct Asked<'a> {
+    pub(crate) pair: &'a Pair,
+    pub(crate) request: Request,
+    pub(crate) arguments: &'a Arguments,
+    pub(crate) answer: Answer,
 }

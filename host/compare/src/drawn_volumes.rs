@@ -1,9 +1,14 @@
 //! What is drawn for TFS: volumes, and arguments besides the usual ones.
 
-use generate::tfs::{any_volume, volume, Shape, Volume};
+use generate::cuts::{Change, Series};
+use generate::tfs::{
+    any_volume, damage_map, damage_volume, damage_volume_twice, scramble_volume, stray_beside,
+    volume, MapFault, Shape, Volume,
+};
 use generate::Random;
 use reference::request::{Arguments, Request};
-use reference::tfs::{BLOCK_SIZE, LARGEST_FILE, MOST_BLOCKS};
+use reference::tfs::{check, BLOCK_SIZE, LARGEST_FILE, MOST_BLOCKS};
+use reference::Refusal;
 
 /// A consistent volume, mostly a small one, or noise.
 pub(crate) fn any_image(random: &mut Random) -> Volume {
@@ -55,6 +60,37 @@ fn noise(random: &mut Random) -> Volume {
         files: Vec::new(),
         gone: Vec::new(),
     }
+}
+
+/// A damaged copy of a volume: with one fault or two, with bits of its map turned, alone or beside
+/// another fault, cut in the middle of a request, or with some bytes changed.
+pub(crate) fn damaged(random: &mut Random, made: &Volume) -> Vec<u8> {
+    let rules = [1, 2, 3, 4, 4, 4, 5, 5, 5, 6, 6, 6, 7, 7, 7];
+    let rules = (random.pick(&rules), random.pick(&rules));
+    let struck = |struck: Option<(Vec<u8>, Refusal)>| struck.map(|(image, _)| image);
+    let damaged = match random.below(10) {
+        0..=2 => struck(damage_volume(random, made, rules.0)),
+        3..=4 => struck(damage_volume_twice(random, made, rules)),
+        5..=6 => {
+            let way = random.pick(&MapFault::ALL);
+            damage_map(random, made, way).map(|damaged| damaged.image)
+        }
+        7 => struck(stray_beside(random, made, rules.0.min(6))),
+        8 => cut(random, made),
+        _ => None,
+    };
+    damaged.unwrap_or_else(|| scramble_volume(random, made))
+}
+
+/// A consistent volume on which a create, a remove or a write was cut.
+fn cut(random: &mut Random, made: &Volume) -> Option<Vec<u8>> {
+    check(&made.image).ok()?;
+    let kind = random.below(3);
+    let change = Change::draw(random, made, kind)?;
+    let series = Series::of_reference(random, change, &made.image);
+    let last = series.stores.len();
+    let count = random.pick(&[1, last.saturating_sub(1), last / 2]);
+    Some(series.cut(count.min(last)))
 }
 
 /// Now and then takes sizes, offsets and buffers at the far ends, and small sizes.

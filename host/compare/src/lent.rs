@@ -52,4 +52,6 @@ pub struct Lents {
     pub name: Lent,
     /// The buffer.
     pub buffer: Lent,
+    /// The bytes to be written whose store is asked for.
+    pub bytes: Lent,
 }

@@ -2,14 +2,16 @@
 //!
 //! [`run()`] draws images and sequences of requests from a seed. Each request runs on both sides,
 //! each with its own copy of the image, the name and the buffer; then the answers, the copies and
-//! the bytes around them must be the same.
+//! the bytes around them must be the same. Creates, removes and writes are also made store by store
+//! and cut after every number of stores; what both sides then give must keep the promises of cuts.
 //!
 //! A module uses only modules of the layers below its own:
 //!
 //! ```text
 //! options                      the words of the command line
 //! run                          image after image, until a limit or a difference
-//! volumes         roms         traces         the sequence of requests on one image or trace
+//! volumes   roms   traces      the sequence of requests on one image or trace
+//! cuts                         requests made store by store and cut, kept to their promises
 //! drawn_volumes   drawn_roms   drawn_traces   images, traces and arguments by chance
 //! comparison                   a request on both sides, counted
 //! pair   tally   sides         two programs with copies of an image; answers counted; the programs
@@ -21,6 +23,7 @@
 
 mod answer;
 mod comparison;
+mod cuts;
 mod drawn_roms;
 mod drawn_traces;
 mod drawn_volumes;

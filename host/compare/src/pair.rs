@@ -1,5 +1,6 @@
 use std::fmt;
 
+use generate::cases::stored;
 use generate::Random;
 use reference::request::{Arguments, Request};
 
@@ -23,6 +24,7 @@ impl Pair {
             image: Lent::new(random, image),
             name: Lent::new(random, b""),
             buffer: Lent::new(random, b""),
+            bytes: Lent::new(random, b""),
         };
         let lents = [lents.clone(), lents];
         Self { sides, lents }
@@ -31,6 +33,11 @@ impl Pair {
     /// Gives the image as it is now.
     pub fn image(&self) -> &[u8] {
         self.lents[1].image.bytes()
+    }
+
+    /// Gives the buffer as it is after the last request.
+    pub fn buffer(&self) -> &[u8] {
+        self.lents[1].buffer.bytes()
     }
 
     /// Makes a request on both sides and gives the answer if nothing differs.
@@ -42,10 +49,12 @@ impl Pair {
     ) -> Result<Answer, Box<Difference>> {
         let name = Lent::new(random, &arguments.name);
         let buffer = Lent::new(random, &arguments.buffer);
+        let bytes = Lent::new(random, &arguments.bytes);
         let answers = [0, 1].map(|side| {
             let lents = &mut self.lents[side];
             lents.name = name.clone();
             lents.buffer = buffer.clone();
+            lents.bytes = bytes.clone();
             self.sides[side](request, arguments, lents)
         });
         let [ours, theirs] = &self.lents;
@@ -53,8 +62,9 @@ impl Pair {
             ours.image.differs_at(&theirs.image),
             ours.name.differs_at(&theirs.name),
             ours.buffer.differs_at(&theirs.buffer),
+            ours.bytes.differs_at(&theirs.bytes),
         ];
-        if answers[0] == answers[1] && at == [None; 3] {
+        if answers[0] == answers[1] && at == [None; 4] {
             return Ok(answers[0]);
         }
         Err(Box::new(Difference {
@@ -63,11 +73,12 @@ impl Pair {
             image_length: self.image().len(),
             answers,
             at,
+            broken: None,
         }))
     }
 }
 
-/// A request that two programs answer differently.
+/// A request that two programs answer differently, or in the same way against a promise.
 #[derive(Clone, Debug)]
 pub struct Difference {
     /// The request.
@@ -78,8 +89,10 @@ pub struct Difference {
     pub image_length: usize,
     /// The answer of each side.
     pub answers: [Answer; 2],
-    /// The first byte that differs in image, name and buffer.
-    pub at: [Option<isize>; 3],
+    /// The first byte that differs in image, name, buffer and bytes.
+    pub at: [Option<isize>; 4],
+    /// The promise that both break.
+    pub broken: Option<&'static str>,
 }
 
 impl fmt::Display for Difference {
@@ -88,6 +101,8 @@ impl fmt::Display for Difference {
             number,
             name,
             buffer,
+            k,
+            bytes,
             entry,
         } = &self.arguments;
         writeln!(
@@ -103,14 +118,20 @@ impl fmt::Display for Difference {
         if self.request == Request::TraceWrite {
             writeln!(f, "  {entry:?}")?;
         }
+        if stored(self.request).is_some() {
+            writeln!(f, "  k {k}, {} bytes to be written", bytes.len())?;
+        }
         for (side, answer) in ["proved", "reference"].iter().zip(&self.answers) {
             writeln!(f, "  {side}: {:?}, name {:?}", answer.words, answer.name)?;
         }
-        for (what, at) in ["image", "name", "buffer"].iter().zip(self.at) {
+        for (what, at) in ["image", "name", "buffer", "bytes"].iter().zip(self.at) {
             if let Some(at) = at {
                 writeln!(f, "  the {what} differs first at byte {at}")?;
             }
         }
-        Ok(())
+        match self.broken {
+            None => Ok(()),
+            Some(broken) => writeln!(f, "  against the promise of cuts: {broken}"),
+        }
     }
 }

@@ -7,7 +7,7 @@ use generate::Random;
 use crate::comparison::{Comparison, Stop};
 use crate::pair::{Difference, Side};
 use crate::tally::Tally;
-use crate::{roms, traces, volumes};
+use crate::{cuts, roms, traces, volumes};
 
 /// What to draw, and when to stop.
 #[derive(Clone, Copy, Debug)]
@@ -51,9 +51,11 @@ pub fn run(limits: Limits, sides: [Side; 2]) -> (Tally, Option<Found>) {
             Ok(()) => {}
             Err(Stop::Enough) => break,
             Err(Stop::Differs(difference)) => {
+                // A request that breaks a promise is counted by then, one that differs is not.
+                let uncounted = u64::from(difference.broken.is_none());
                 let found = Found {
                     image,
-                    request: comparison.tally.requests() - before + 1,
+                    request: comparison.tally.requests() - before + uncounted,
                     difference,
                 };
                 return (comparison.tally, Some(found));
@@ -66,11 +68,13 @@ pub fn run(limits: Limits, sides: [Side; 2]) -> (Tally, Option<Found>) {
 /// Makes the sequence of requests on the image of a number.
 fn on_image(comparison: &mut Comparison, limits: &Limits, image: u64) -> Result<(), Stop> {
     comparison.random = Random::new(limits.seed.wrapping_mul(0x9E37_79B9_7F4A_7C15) ^ image);
-    // A volume or a trace has about ten times as many requests as a romfs image.
+    // A volume, a cut or a trace has about ten times as many requests as a romfs image.
     match (limits.tfs, limits.romfs) {
         (true, true) if image % 20 == 5 => traces::on_next(comparison),
+        (true, true) if image % 20 == 15 => cuts::on_next(comparison),
         (true, true) if image.is_multiple_of(10) => volumes::on_next(comparison),
         (true, false) if image % 4 == 3 => traces::on_next(comparison),
+        (true, false) if image % 4 == 1 => cuts::on_next(comparison),
         (true, false) => volumes::on_next(comparison),
         _ => roms::on_next(comparison),
     }

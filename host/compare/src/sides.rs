@@ -13,10 +13,11 @@ const REPLAY_REFUSED: u64 = 3;
 
 /// Answers with the proved library.
 pub fn proved(request: Request, arguments: &Arguments, lents: &mut Lents) -> Answer {
-    let number = arguments.number;
+    let Arguments { number, k, .. } = *arguments;
     let image = lents.image.bytes_mut();
     let name = lents.name.bytes();
     let buffer = lents.buffer.bytes_mut();
+    let bytes = lents.bytes.bytes();
     match request {
         Request::TfsCheck => tfs_answer(c::tfs::check(image)),
         Request::TfsFormat => tfs_answer(c::tfs::format(image, name)),
@@ -26,6 +27,12 @@ pub fn proved(request: Request, arguments: &Arguments, lents: &mut Lents) -> Ans
         Request::TfsWrite => tfs_answer(c::tfs::write(image, name, number, buffer)),
         Request::TfsList => slot_answer(c::tfs::list(image, number)),
         Request::TfsFree => tfs_answer(c::tfs::free_bytes(image)),
+        Request::TfsCreateStore => tfs_answer(c::tfs::create_store(image, name, number, k, buffer)),
+        Request::TfsRemoveStore => tfs_answer(c::tfs::remove_store(image, name, k, buffer)),
+        Request::TfsWriteStore => {
+            tfs_answer(c::tfs::write_store(image, name, number, bytes, k, buffer))
+        }
+        Request::TfsMend => tfs_answer(c::tfs::mend(image)),
         Request::TfsReplay => replay_answer(c::trace::replay(image, buffer)),
         Request::TraceRead => record_answer(c::trace::read(buffer, number as usize)),
         Request::TraceWrite => {

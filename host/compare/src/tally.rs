@@ -4,7 +4,7 @@ use reference::request::Request;
 
 use crate::answer::Answer;
 
-const REQUESTS: [(Request, &str); 15] = [
+const REQUESTS: [(Request, &str); 19] = [
     (Request::TfsFormat, "format"),
     (Request::TfsCheck, "check"),
     (Request::TfsCreate, "create"),
@@ -13,6 +13,10 @@ const REQUESTS: [(Request, &str); 15] = [
     (Request::TfsWrite, "write"),
     (Request::TfsList, "list"),
     (Request::TfsFree, "free bytes"),
+    (Request::TfsCreateStore, "store of create"),
+    (Request::TfsRemoveStore, "store of remove"),
+    (Request::TfsWriteStore, "store of write"),
+    (Request::TfsMend, "mend"),
     (Request::TfsReplay, "replay"),
     (Request::TraceRead, "record read"),
     (Request::TraceWrite, "record written"),
@@ -34,6 +38,8 @@ pub struct Tally {
     ended: [u64; 3],
     /// How often a record of each kind was read; 0 is malformed.
     read: [u64; 6],
+    /// How often a create, a remove and a write were cut.
+    cuts: [u64; 3],
 }
 
 impl Default for Tally {
@@ -42,6 +48,7 @@ impl Default for Tally {
             answers: [[0; REFUSALS]; 32],
             ended: [0; 3],
             read: [0; 6],
+            cuts: [0; 3],
         }
     }
 }
@@ -56,6 +63,16 @@ impl Tally {
             _ => {}
         }
         self.answers[request as usize][answer.refusal() as usize] += 1;
+    }
+
+    /// Counts a cut of a create (0), a remove (1) or a write (2).
+    pub fn cut(&mut self, kind: usize) {
+        self.cuts[kind] += 1;
+    }
+
+    /// Gives how often a create (0), a remove (1) or a write (2) was cut.
+    pub fn cuts(&self, kind: usize) -> u64 {
+        self.cuts[kind]
     }
 
     /// Gives how often a granted replay ended with an outcome.
@@ -104,7 +121,7 @@ impl fmt::Display for Tally {
             write!(f, " {name} {granted}+{}", all - granted)?;
         }
         write!(f, "; refusals:")?;
-        for number in (1..=15).chain(21..=31).chain([33]) {
+        for number in (1..=15).chain(21..=33) {
             write!(f, " {number}:{}", self.seen(number))?;
         }
         let [all, malformed, differs] = self.ended;
@@ -112,6 +129,12 @@ impl fmt::Display for Tally {
             f,
             "; replayed: all {all}, malformed {malformed}, differs {differs}"
         )?;
-        write!(f, "; records read malformed: {}", self.read[0])
+        write!(f, "; records read malformed: {}", self.read[0])?;
+        let [create, remove, write] = self.cuts;
+        write!(
+            f,
+            "; cuts: {} (create {create}, remove {remove}, write {write})",
+            create + remove + write
+        )
     }
 }

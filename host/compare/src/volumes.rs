@@ -1,18 +1,16 @@
 //! Sequences of requests on TFS volumes.
 
-use generate::cases::{tfs_arguments, trace_arguments};
-use generate::tfs::{
-    damage_volume, damage_volume_twice, put_leftovers, put_padding, scramble_volume, Volume,
-};
+use generate::cases::{store_arguments, stored, tfs_arguments, trace_arguments};
+use generate::tfs::{put_leftovers, put_padding, Volume};
 use reference::request::{Arguments, Request};
 use reference::tfs::BLOCK_SIZE;
 
 use crate::answer::Answer;
 use crate::comparison::{Comparison, Stop};
-use crate::drawn_volumes::{any_image, twist};
+use crate::drawn_volumes::{any_image, damaged, twist};
 use crate::pair::Pair;
 
-const REQUESTS: [Request; 27] = [
+const REQUESTS: [Request; 34] = [
     Request::TfsCreate,
     Request::TfsCreate,
     Request::TfsCreate,
@@ -38,6 +36,13 @@ const REQUESTS: [Request; 27] = [
     Request::TfsReplay,
     Request::TfsReplay,
     Request::TfsReplay,
+    Request::TfsCreateStore,
+    Request::TfsCreateStore,
+    Request::TfsRemoveStore,
+    Request::TfsRemoveStore,
+    Request::TfsWriteStore,
+    Request::TfsWriteStore,
+    Request::TfsMend,
     Request::TfsCheck,
     Request::TfsFormat,
 ];
@@ -134,25 +139,19 @@ impl<'a> History<'a> {
         Ok(())
     }
 
-    /// Makes a few requests on a damaged copy, which is then not used again.
+    /// Makes a few requests on a damaged copy, which is then not used again; the first is often a mend.
     fn aside(&mut self) -> Result<(), Stop> {
-        let random = &mut self.comparison.random;
         self.made.image = self.pair.image().to_vec();
         if self.made.image.len() < 3 * BLOCK_SIZE {
             return Ok(());
         }
-        let rules = [1, 2, 3, 4, 4, 4, 5, 5, 5, 6, 6, 6, 7, 7, 7];
-        let rules = (random.pick(&rules), random.pick(&rules));
-        let damaged = match random.below(5) {
-            0 | 1 => damage_volume(random, &self.made, rules.0),
-            2 | 3 => damage_volume_twice(random, &self.made, rules),
-            _ => None,
-        };
-        let damaged = match damaged {
-            Some((image, _)) => image,
-            None => scramble_volume(random, &self.made),
-        };
+        let damaged = damaged(&mut self.comparison.random, &self.made);
         let mut pair = self.comparison.pair(&damaged);
+        if self.comparison.random.one_in(2) {
+            let arguments = Arguments::default();
+            self.comparison
+                .ask(&mut pair, Request::TfsMend, &arguments)?;
+        }
         for _ in 0..self.comparison.random.between(1, 4) {
             let (request, arguments) = self.request();
             self.comparison.ask(&mut pair, request, &arguments)?;
@@ -180,6 +179,12 @@ impl<'a> History<'a> {
         if request == Request::TfsReplay {
             self.made.image = self.pair.image().to_vec();
             let arguments = trace_arguments(random, &self.made);
+            return (request, arguments);
+        }
+        if let Some(whole) = stored(request).filter(|_| random.one_in(4)) {
+            let mut arguments = tfs_arguments(random, &self.made, whole);
+            twist(random, whole, &mut arguments);
+            let arguments = store_arguments(random, &self.made, request, arguments);
             return (request, arguments);
         }
         let mut arguments = tfs_arguments(random, &self.made, request);

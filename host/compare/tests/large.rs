@@ -40,7 +40,6 @@ impl Large {
         self.transfer(request, number, name, b"")
     }
 
-    /// Makes a request on both programs; the bytes past block 4095 stay.
     fn transfer(&mut self, request: Request, number: u32, name: &[u8], buffer: &[u8]) -> Answer {
         let arguments = Arguments {
             number,
@@ -48,7 +47,25 @@ impl Large {
             buffer: buffer.to_vec(),
             ..Arguments::default()
         };
-        let answer = self.pair.request(&mut self.random, request, &arguments);
+        self.make(request, &arguments)
+    }
+
+    /// The number of the block of a store, 0 where it is refused.
+    fn store(&mut self, request: Request, number: u32, name: &[u8], k: usize) -> u32 {
+        let arguments = Arguments {
+            number,
+            name: name.to_vec(),
+            k,
+            bytes: vec![0x55; 600],
+            buffer: vec![0xAA; 513],
+            ..Arguments::default()
+        };
+        self.make(request, &arguments).value()
+    }
+
+    /// Makes a request on both programs; the bytes past block 4095 stay.
+    fn make(&mut self, request: Request, arguments: &Arguments) -> Answer {
+        let answer = self.pair.request(&mut self.random, request, arguments);
         let answer = answer.unwrap_or_else(|difference| panic!("{difference}"));
         let image = self.pair.image();
         assert!(image[MOST.min(image.len())..] == self.past[..]);
@@ -110,6 +127,29 @@ fn block_4095_is_used() {
 }
 
 #[test]
+fn block_4095_is_stored_and_mended() {
+    for length in LENGTHS {
+        let mut large = with_last_blocks(length);
+        let mut numbers = |request, k| large.store(request, 2, b"LAST", k);
+        assert_eq!(
+            [1, 2].map(|k| numbers(Request::TfsWriteStore, k)),
+            [4095, 0]
+        );
+        let removed = [1, 2, 3].map(|k| numbers(Request::TfsRemoveStore, k));
+        assert_eq!(removed, [2, 1, 0]);
+        assert_eq!(large.store(Request::TfsCreateStore, 65_024, b"A", 127), 130);
+        assert_eq!(large.store(Request::TfsCreateStore, 65_024, b"A", 130), 2);
+        let mut image = large.pair.image().to_vec();
+        image[1024..1044].fill(0);
+        let mut large = large.holding(&image);
+        assert_eq!(large.ask(Request::TfsCheck, 0, b""), Answer::of(&[7, 4094]));
+        assert_eq!(large.ask(Request::TfsMend, 0, b""), Answer::default());
+        assert_eq!(large.pair.image()[512 + 508], 0);
+        assert_eq!(large.free(), 2_095_616);
+    }
+}
+
+#[test]
 fn faults_at_block_4095_and_past_it() {
     let content = 512 * 4094 + 4;
     // The byte that is changed, what it becomes, and the refusal with its place.
@@ -126,8 +166,10 @@ fn faults_at_block_4095_and_past_it() {
             let mut image = large.pair.image().to_vec();
             image[at] = byte;
             let mut large = large.holding(&image);
-            let refused = large.ask(Request::TfsCheck, 0, b"");
-            assert_eq!(refused, Answer::of(&[number, place]), "{length} {at}");
+            for request in [Request::TfsCheck, Request::TfsMend] {
+                let refused = large.ask(request, 0, b"");
+                assert_eq!(refused, Answer::of(&[number, place]), "{length} {at}");
+            }
         }
     }
 }
@@ -143,6 +185,24 @@ fn the_largest_files_fill_3203_blocks() {
     assert_eq!(large.ask(Request::TfsCreate, 0, b"more").refusal(), 11);
     assert_eq!(large.ask(Request::TfsRemove, 0, b"C"), Answer::default());
     assert_eq!(large.free(), 65_536);
+}
+
+/// Stores and a mend on a long image, and a write of more bytes than 32 bits can count.
+fn long_stores(image: &mut [u8]) {
+    let mut block = [0xAA; 512];
+    let stored = proved::tfs::create_store(image, b"B", 1_000, 3, &mut block);
+    assert_eq!(stored, Ok(6));
+    let stored = proved::tfs::remove_store(image, b"A", 2, &mut block);
+    assert_eq!((stored, &block[..4]), (Ok(1), &[0, 0, 0, 7][..]));
+    let bytes = vec![0; (1 << 32) + 600];
+    let numbers = [1, 2, 3, (1 << 32) + 1].map(|k| {
+        let stored = proved::tfs::write_store(image, b"A", 9, &bytes, k, &mut block);
+        stored.unwrap_or(0)
+    });
+    assert_eq!(numbers, [4, 5, 0, 0]);
+    image[516] = 1;
+    assert_eq!(proved::tfs::mend(image), Ok(()));
+    assert_eq!((image[516], proved::tfs::check(image)), (0, Ok(())));
 }
 
 /// A length that 32 bits cannot hold; its bytes are zeros that take no memory until they are used.
@@ -164,6 +224,7 @@ fn images_longer_than_4_gib() {
     assert_eq!(read.map(|read| (read.count, read.blocks)), Ok((1_000, 2)));
     assert_eq!(theirs, buffer);
 
+    long_stores(&mut image);
     let rom = tree_rom(3, 2, 5);
     image[..rom.image.len()].copy_from_slice(&rom.image);
     assert_eq!(proved::romfs::check(&image), Ok(()));

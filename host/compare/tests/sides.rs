@@ -8,7 +8,7 @@ use reference::request::{Arguments, Request};
 use sought::{compared, found};
 
 /// The refusals that each request can give.
-const REFUSALS: [(Request, &[u32]); 15] = [
+const REFUSALS: [(Request, &[u32]); 19] = [
     (Request::TfsFormat, &[1, 8]),
     (Request::TfsCheck, &[1, 2, 3, 4, 5, 6, 7]),
     (Request::TfsCreate, &[1, 2, 3, 4, 5, 6, 7, 8, 9, 10, 11, 12]),
@@ -17,6 +17,16 @@ const REFUSALS: [(Request, &[u32]); 15] = [
     (Request::TfsWrite, &[1, 2, 3, 4, 5, 6, 7, 8, 13, 15]),
     (Request::TfsList, &[1, 2, 3, 4, 5, 6, 7, 14]),
     (Request::TfsFree, &[1, 2, 3, 4, 5, 6, 7]),
+    (
+        Request::TfsCreateStore,
+        &[1, 2, 3, 4, 5, 6, 7, 8, 9, 10, 11, 12, 32],
+    ),
+    (Request::TfsRemoveStore, &[1, 2, 3, 4, 5, 6, 7, 8, 13, 32]),
+    (
+        Request::TfsWriteStore,
+        &[1, 2, 3, 4, 5, 6, 7, 8, 13, 15, 32],
+    ),
+    (Request::TfsMend, &[1, 2, 3, 4, 5, 6, 7]),
     (Request::TfsReplay, &[1, 2, 3, 4, 5, 6, 7]),
     (Request::TraceRead, &[]),
     (Request::TraceWrite, &[33]),
@@ -46,6 +56,7 @@ fn both_agree_and_every_answer_is_met() {
     }
     assert!((0..3).all(|outcome| tally.ended(outcome) > 100));
     assert!((0..6).all(|kind| tally.read(kind) > 20));
+    assert!((0..3).all(|kind| tally.cuts(kind) > 100));
 }
 
 #[test]

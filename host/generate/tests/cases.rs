@@ -4,9 +4,9 @@ mod ways;
 
 use std::collections::HashSet;
 
-use generate::cases::{romfs_cases, tfs_cases, Case};
+use generate::cases::{romfs_cases, stored, tfs_cases, Case};
 use generate::tfs::{has_leftovers, padding};
-use reference::request::{Arguments, Request};
+use reference::request::{run, Arguments, Request};
 use reference::tfs::{self, Listing, BLOCK_SIZE};
 
 fn numbers(cases: &[Case]) -> HashSet<(Request, u32)> {
@@ -31,6 +31,10 @@ fn cases_meet_every_answer_and_stay_small() {
         (Request::TfsWrite, vec![0, 8, 13, 15]),
         (Request::TfsList, vec![0, 14]),
         (Request::TfsFree, vec![0]),
+        (Request::TfsCreateStore, vec![0, 8, 9, 10, 11, 12, 32]),
+        (Request::TfsRemoveStore, vec![0, 8, 13, 32]),
+        (Request::TfsWriteStore, vec![0, 8, 13, 15, 32]),
+        (Request::TfsMend, vec![0, 1, 2, 3, 4, 5, 6, 7]),
     ];
     for (request, owed) in wanted {
         for number in owed {
@@ -38,7 +42,10 @@ fn cases_meet_every_answer_and_stay_small() {
         }
     }
     assert!(cases.iter().map(|case| case.image.len()).sum::<usize>() < 5 << 20);
+}
 
+#[test]
+fn romfs_cases_meet_every_answer() {
     let cases = romfs_cases(1, 600);
     let met = numbers(&cases);
     for number in [0, 21, 22, 23, 24, 25, 26, 27, 28, 29] {
@@ -140,6 +147,73 @@ fn cases_meet_every_way_to_break_a_slot() {
     assert_eq!(met.len(), 9, "{met:?}");
 }
 
+/// The number of a store among those of its request, 0 for one that there is not.
+fn place(case: &Case) -> Option<(Request, usize, usize)> {
+    let whole = stored(case.request)?;
+    let arguments = Arguments {
+        buffer: case.arguments.bytes.clone(),
+        ..case.arguments.clone()
+    };
+    let mut image = case.image.clone();
+    let mut bytes = arguments.buffer.clone();
+    let (values, _) = run(whole, &arguments, &mut image, &mut bytes).ok()?;
+    let last = match whole {
+        Request::TfsCreate => (arguments.number as usize).div_ceil(BLOCK_SIZE) + 3,
+        Request::TfsRemove => 2,
+        _ => values[1] as usize,
+    };
+    Some((case.request, arguments.k, last))
+}
+
+#[test]
+fn stores_are_asked_for_by_every_kind_of_number() {
+    let cases = tfs_cases(1, 600, false);
+    let with_room = |case: &&Case| case.arguments.buffer.len() >= BLOCK_SIZE;
+    let places: Vec<_> = cases.iter().filter(with_room).filter_map(place).collect();
+    for wanted in [
+        Request::TfsCreateStore,
+        Request::TfsRemoveStore,
+        Request::TfsWriteStore,
+    ] {
+        let asked = || places.iter().filter(|(request, ..)| *request == wanted);
+        assert!(asked().any(|(_, k, _)| *k == 0));
+        assert!(asked().any(|(_, k, last)| k == last));
+        assert!(asked().any(|(_, k, last)| *k == last + 1));
+        assert!(asked().any(|(_, k, last)| (1..=*last).contains(&(k & 0xFFFF_FFFF)) && k > last));
+        assert!(asked().any(|(_, k, _)| *k == usize::MAX));
+        let granted = asked().filter(|(_, k, last)| (1..=*last).contains(k));
+        let mut numbers: Vec<usize> = granted.map(|(_, k, _)| *k).collect();
+        numbers.sort();
+        numbers.dedup();
+        assert!(numbers.len() >= 2, "{wanted:?} {numbers:?}");
+    }
+}
+
+#[test]
+fn mends_clear_bits_or_none() {
+    let cases = tfs_cases(1, 600, false);
+    let mends = cases.iter().filter(|case| case.request == Request::TfsMend);
+    let told = |case: &Case| {
+        (
+            case.answer.number,
+            tfs::check(&case.image).err().map(|c| c.place),
+        )
+    };
+    let (mut cleared, mut kept, mut passed) = (0, 0, 0);
+    for case in mends {
+        match told(case) {
+            (0, None) => kept += 1,
+            (0, Some(_)) => cleared += 1,
+            (7, place) => passed += usize::from(place != Some(case.answer.place)),
+            _ => {}
+        }
+    }
+    assert!(
+        cleared > 10 && kept > 1 && passed > 1,
+        "{cleared} {kept} {passed}"
+    );
+}
+
 #[test]
 fn the_same_seed_gives_the_same_cases() {
     assert_eq!(tfs_cases(5, 40, false), tfs_cases(5, 40, false));
@@ -149,8 +223,8 @@ fn the_same_seed_gives_the_same_cases() {
 
 #[test]
 fn large_cases_stand_at_the_end() {
-    let cases = tfs_cases(5, 20, true);
-    assert_eq!(cases.len(), 20);
+    let cases = tfs_cases(5, 24, true);
+    assert_eq!(cases.len(), 24);
     assert!(cases[7..].iter().all(|case| case.image.len() >= 2_097_152));
     assert!(cases[..7].iter().all(|case| case.image.len() < 100_000));
 }

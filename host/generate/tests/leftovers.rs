@@ -1,5 +1,7 @@
 //! Leftovers stand in a good part of the volumes, and requests ignore and keep them.
 
+mod placed;
+
 use std::collections::HashMap;
 
 use generate::cases::tfs_arguments;
@@ -7,6 +9,7 @@ use generate::tfs::{
     any_volume, damage_volume, has_leftovers, leftovers, put_leftovers, volume, File, Shape, Volume,
 };
 use generate::Random;
+use placed::placed;
 use reference::request::{run, Arguments, Request, CHECKING};
 use reference::tfs::SLOTS;
 
@@ -95,9 +98,10 @@ impl Twins {
         let [one, other] = self.0.each_mut().map(|image| {
             let mut buffer = arguments.buffer.clone();
             let answer = run(request, arguments, image, &mut buffer);
-            (answer, buffer, cleared(image))
+            let (placed, buffer) = placed(request, &answer, image, &buffer);
+            (answer, buffer, cleared(&placed))
         });
-        assert_eq!(one, other);
+        assert!(one == other, "{request:?} {arguments:?}");
         for (before, after) in before.iter().zip(&self.0) {
             for slot in changed(before, after) {
                 let names = [name(before, slot), name(after, slot)];
@@ -128,7 +132,7 @@ fn leftovers_are_ignored_and_kept() {
     for _ in 0..400 {
         let mut made = sound_or_damaged(&mut random);
         let mut twins = Twins::new(&mut random, &mut made);
-        for _ in 0..20 {
+        for _ in 0..30 {
             let request = random.pick(&CHECKING);
             let arguments = tfs_arguments(&mut random, &made, request);
             if twins.ask(request, &arguments) {

@@ -1,10 +1,13 @@
 //! Padding of the map stands in a good part of the volumes, and requests ignore and keep it.
 
+mod placed;
+
 use std::collections::HashMap;
 
 use generate::cases::tfs_arguments;
 use generate::tfs::{any_volume, padding, put_padding, volume, Shape};
 use generate::Random;
+use placed::placed;
 use reference::request::{run, Arguments, Request, CHECKING};
 
 #[test]
@@ -44,11 +47,12 @@ fn ask(images: &mut [Vec<u8>; 2], blocks: usize, request: Request, arguments: &A
         let (_, before) = parted(image, blocks);
         let mut buffer = arguments.buffer.clone();
         let answer = run(request, arguments, image, &mut buffer);
-        let (cleared, after) = parted(image, blocks);
+        let (placed, buffer) = placed(request, &answer, image, &buffer);
+        let (cleared, after) = parted(&placed, blocks);
         assert_eq!(before, after);
         (answer, buffer, cleared)
     });
-    assert_eq!(one, other);
+    assert!(one == other, "{request:?} {arguments:?}");
     one.0.is_ok()
 }
 
@@ -62,7 +66,7 @@ fn padding_is_ignored_and_kept() {
         let own = made.image.clone();
         put_padding(&mut random, &mut made);
         let mut images = [own, made.image.clone()];
-        for _ in 0..20 {
+        for _ in 0..30 {
             let request = random.pick(&CHECKING);
             let arguments = tfs_arguments(&mut random, &made, request);
             if ask(&mut images, made.blocks, request, &arguments) {

@@ -98,3 +98,42 @@ pub fn list(image: &[u8], slot: u32) -> Result<Option<File>, Refusal> {
 pub fn free_bytes(image: &[u8]) -> Result<u32, Refusal> {
     c::free_bytes(image).told()
 }
+
+/// Gives the k-th store of a create, from 1: the number of its block, whose bytes come to the start
+/// of the buffer.
+pub fn create_store(
+    image: &[u8],
+    name: &[u8],
+    size: u32,
+    k: usize,
+    buffer: &mut [u8],
+) -> Result<u32, Refusal> {
+    c::create_store(image, name, size, k, buffer).told()
+}
+
+/// Gives the k-th store of a remove.
+pub fn remove_store(
+    image: &[u8],
+    name: &[u8],
+    k: usize,
+    buffer: &mut [u8],
+) -> Result<u32, Refusal> {
+    c::remove_store(image, name, k, buffer).told()
+}
+
+/// Gives the k-th store of a write of these bytes.
+pub fn write_store(
+    image: &[u8],
+    name: &[u8],
+    offset: u32,
+    bytes: &[u8],
+    k: usize,
+    buffer: &mut [u8],
+) -> Result<u32, Refusal> {
+    c::write_store(image, name, offset, bytes, k, buffer).told()
+}
+
+/// Clears the map bits that nobody claims.
+pub fn mend(image: &mut [u8]) -> Result<(), Refusal> {
+    c::mend(image).told().map(drop)
+}

@@ -30,6 +30,14 @@ pub enum Request {
     TraceRead = 10,
     /// Write of a record over the start of the image; the buffer holds the record's bytes.
     TraceWrite = 11,
+    /// The k-th store of a create of a name with a size, into a buffer.
+    TfsCreateStore = 12,
+    /// The k-th store of a remove of a name, into a buffer.
+    TfsRemoveStore = 13,
+    /// The k-th store of a write of bytes to a name from an offset on, into a buffer.
+    TfsWriteStore = 14,
+    /// Mend of a TFS volume.
+    TfsMend = 15,
     /// Check of a romfs image.
     RomCheck = 17,
     /// Find of a name in a directory.
@@ -43,7 +51,7 @@ pub enum Request {
 }
 
 /// The requests on a TFS volume that check it first, but for replay, which makes such requests.
-pub const CHECKING: [Request; 7] = [
+pub const CHECKING: [Request; 10] = [
     Request::TfsCheck,
     Request::TfsCreate,
     Request::TfsRemove,
@@ -51,6 +59,9 @@ pub const CHECKING: [Request; 7] = [
     Request::TfsWrite,
     Request::TfsList,
     Request::TfsFree,
+    Request::TfsCreateStore,
+    Request::TfsRemoveStore,
+    Request::TfsWriteStore,
 ];
 
 /// What a request is given besides the image.
@@ -62,6 +73,10 @@ pub struct Arguments {
     pub name: Vec<u8>,
     /// The buffer as it is before the request.
     pub buffer: Vec<u8>,
+    /// Which store is asked for, from 1.
+    pub k: usize,
+    /// The bytes to be written whose store is asked for.
+    pub bytes: Vec<u8>,
     /// The numbers of a record that is to be written.
     pub entry: Entry,
 }
@@ -69,7 +84,7 @@ pub struct Arguments {
 /// The numbers of a granted result, and its name or content.
 pub type Granted = (Vec<u32>, Vec<u8>);
 
-/// Makes a request; the buffer is given besides the arguments because a read changes it.
+/// Makes a request; the buffer is given besides the arguments because a read or a store changes it.
 pub fn run(
     request: Request,
     arguments: &Arguments,
@@ -88,25 +103,55 @@ pub fn run(
         Request::TfsWrite => tfs::write(image, name, number, buffer).map(moved),
         Request::TfsList => tfs::list(image, number).map(listed),
         Request::TfsFree => tfs::free_bytes(image).map(one),
+        Request::TfsCreateStore | Request::TfsRemoveStore | Request::TfsWriteStore => {
+            store(request, arguments, image, buffer).map(one)
+        }
+        Request::TfsMend => tfs::mend(image).map(nothing),
         Request::TfsReplay => trace::replay(image, buffer).map(ended),
         Request::TraceRead => Ok((read_record(buffer, number).to_vec(), Vec::new())),
-        Request::TraceWrite => {
-            let draft = Draft {
-                entry: arguments.entry,
-                name,
-                bytes: buffer,
-            };
-            draft.write(image).map(|length| one(length as u32))
-        }
+        Request::TraceWrite => write_record(arguments, image, buffer).map(one),
         Request::RomCheck => romfs::check(image).map(nothing),
         Request::RomFind => romfs::find(image, number, name).map(one),
         Request::RomEntry => romfs::entry(image, number).map(described),
         Request::RomLength => romfs::content_length(image, number).map(one),
-        Request::RomContent => {
-            let content = romfs::content(image, number);
-            Ok((vec![content.len() as u32], content.to_vec()))
-        }
+        Request::RomContent => Ok(part(romfs::content(image, number))),
     }
+}
+
+/// The k-th store of a create, a remove or a write.
+fn store(
+    request: Request,
+    arguments: &Arguments,
+    image: &[u8],
+    buffer: &mut [u8],
+) -> Result<u32, Refusal> {
+    let Arguments {
+        number,
+        k,
+        ref name,
+        ref bytes,
+        ..
+    } = *arguments;
+    match request {
+        Request::TfsCreateStore => tfs::create_store(image, name, number, k, buffer),
+        Request::TfsRemoveStore => tfs::remove_store(image, name, k, buffer),
+        _ => tfs::write_store(image, name, number, bytes, k, buffer),
+    }
+}
+
+/// Writes the record of arguments and a buffer, and gives its length.
+fn write_record(arguments: &Arguments, out: &mut [u8], bytes: &[u8]) -> Result<u32, Refusal> {
+    let draft = Draft {
+        entry: arguments.entry,
+        name: &arguments.name,
+        bytes,
+    };
+    draft.write(out).map(|length| length as u32)
+}
+
+/// The result of a request that gives content.
+fn part(content: &[u8]) -> Granted {
+    (vec![content.len() as u32], content.to_vec())
 }
 
 /// The result of a request that gives none.

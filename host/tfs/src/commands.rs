@@ -40,13 +40,25 @@ message says that the image or file has been changed and the trace has not."
     };
 }
 
-const COMMANDS: [Command; 15] = [
+/// What --in-place adds to a command.
+macro_rules! in_place {
+    () => {
+        "
+--in-place changes the file itself: whole blocks are stored one after another, each flushed before
+the next. A cut of the power after any of them leaves a volume that is consistent, or that tfs mend
+makes so; tfs check tells which. Without the option a new file is renamed over the old one.
+A block device is always changed in place."
+    };
+}
+
+const COMMANDS: [Command; 16] = [
     Command {
         name: "make",
         usage: "IMAGE --size BYTES [--label NAME] [--force]",
         about: "Makes an empty volume in a new file.
 BYTES is 1536 or more; 64K and 2M are understood. Bytes past 2M are never used.
-NAME is the volume's name, of at most 15 bytes. --force replaces a file that stands there.",
+NAME is the volume's name, of at most 15 bytes. --force replaces a file that stands there. A block
+device is refused: make the volume in a plain file and copy it there.",
         words: (1, 1),
         options: Options {
             valued: &["--size", "--label"],
@@ -57,7 +69,8 @@ NAME is the volume's name, of at most 15 bytes. --force replaces a file that sta
     Command {
         name: "check",
         usage: "IMAGE",
-        about: "Prints \"consistent\", or refuses with the first fault and its slot or block.",
+        about: "Prints \"consistent\", or refuses with the first fault and its slot or block.
+Where tfs mend would be granted, the message says so.",
         words: (1, 1),
         options: NO_OPTIONS,
         run: |given| volume::check(given.path(0)),
@@ -84,7 +97,7 @@ A name ends at its zero; leftovers behind it are shown by tfs dump only.",
     },
     Command {
         name: "put",
-        usage: "IMAGE HOSTFILE [--name NAME] [--replace] [--blocks] [--record TRACE]",
+        usage: "IMAGE HOSTFILE [--name NAME] [--replace] [--blocks] [--in-place] [--record TRACE]",
         about: concat!(
             recorded!(
                 "Puts a host file into the volume, under its own name or under NAME.
@@ -93,12 +106,16 @@ HOSTFILE may be - for standard input. A name that stands is refused, unless --re
             ),
             "
 Where --replace has removed a file in memory and the new one is refused, nothing is recorded,
-since the image stays as it was."
+since the image stays as it was.",
+            in_place!(),
+            "
+A put is a create and then a write, and with --replace a remove before them: in place, a cut may
+come between them, too."
         ),
         words: (2, 2),
         options: Options {
             valued: &["--name", "--record"],
-            flags: &["--replace", "--blocks"],
+            flags: &["--replace", "--blocks", "--in-place"],
         },
         run: put,
     },
@@ -120,11 +137,31 @@ With HOSTFILE - this line goes to standard error, so that standard output is the
     },
     Command {
         name: "remove",
-        usage: "IMAGE NAME [--record TRACE]",
-        about: recorded!("Removes a file from the volume."),
+        usage: "IMAGE NAME [--in-place] [--record TRACE]",
+        about: concat!(recorded!("Removes a file from the volume."), in_place!()),
         words: (2, 2),
-        options: ONLY_RECORD,
-        run: |given| volume::remove(given.path(0), given.bytes(1), given.path_of("--record")),
+        options: Options {
+            valued: &["--record"],
+            flags: &["--in-place"],
+        },
+        run: remove,
+    },
+    Command {
+        name: "mend",
+        usage: "IMAGE [--in-place]",
+        about: concat!(
+            "Clears the bits of the map that are set for blocks, from 3 on, which no file has, as a create or
+a remove leaves them that was cut in the middle, and prints how many: \"map bits cleared: N\". A
+volume without such bits is not written. One with any other fault is refused as by tfs check, with
+the first of these faults, and stays as it is.",
+            in_place!()
+        ),
+        words: (1, 1),
+        options: Options {
+            valued: &[],
+            flags: &["--in-place"],
+        },
+        run: |given| volume::mend(given.path(0), given.flag("--in-place")),
     },
     Command {
         name: "replay",
@@ -133,7 +170,7 @@ With HOSTFILE - this line goes to standard error, so that standard output is the
 Prints how many records were replayed, or tells the record, from 1, whose answer differs (exit
 status 4) or that is malformed (5). IMAGE is never changed. --out writes the copy to IMAGE2, also
 where replay has stopped: with all that was made, a differing request too. A file that stands
-there is replaced. A volume that is refused (1) gives no IMAGE2.",
+there is replaced, a block device is refused. A volume that is refused (1) gives no IMAGE2.",
         words: (2, 2),
         options: Options {
             valued: &["--out"],
@@ -222,8 +259,8 @@ const STATUS: &str = "Exit status: 0 done; 1 refused by the rules of the filesys
 3 a host file cannot be read or written; 4 a replayed request was answered otherwise; 5 a record
 or a line of a trace is malformed. After a failure every file is as it was, but: replay --out
 writes its copy; --record adds refused requests to the trace; what was written before standard
-output failed stays; and so does an image or file whose trace could not be put in place, which
-the message says.\n";
+output failed stays; so does an image or file whose trace could not be put in place; and so do the
+blocks that a command in place had stored. The message says so in the last two cases.\n";
 
 /// Runs the command that words ask for.
 pub fn run(words: Vec<OsString>) -> Outcome {
@@ -324,6 +361,7 @@ fn put(given: &Arguments) -> Outcome {
         name: given.value("--name").map(|name| name.as_bytes()),
         replace: given.flag("--replace"),
         blocks: given.flag("--blocks"),
+        in_place: given.flag("--in-place"),
     };
     volume::put(given.path(0), &put, given.path_of("--record"))
 }
@@ -335,6 +373,11 @@ fn get(given: &Arguments) -> Outcome {
         blocks: given.flag("--blocks"),
     };
     volume::get(given.path(0), &get, given.path_of("--record"))
+}
+
+fn remove(given: &Arguments) -> Outcome {
+    let (record, in_place) = (given.path_of("--record"), given.flag("--in-place"));
+    volume::remove(given.path(0), given.bytes(1), record, in_place)
 }
 
 fn dump(given: &Arguments) -> Outcome {

@@ -73,7 +73,7 @@ impl Part {
 
 /// Shows a part of a volume.
 pub fn dump(path: &Path, part: Part) -> Outcome {
-    let image = Image::load(path)?;
+    let image = Image::load_volume(path)?;
     let (range, length) = (part.range(), image.bytes.len());
     let bytes = image.bytes.get(range.start..range.end.min(length));
     let bytes = bytes.unwrap_or_default();

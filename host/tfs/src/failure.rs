@@ -15,6 +15,8 @@ pub enum Failure {
     Usage(String),
     /// The rules of the filesystem in this file refuse it.
     Refused(PathBuf, Refusal),
+    /// The same, and a mend of the volume would be granted.
+    Mendable(PathBuf, Refusal),
     /// This host file cannot be read or written.
     Host(PathBuf, String),
     /// A request of this trace was answered otherwise than expected.
@@ -46,7 +48,7 @@ impl Failure {
     /// The exit status.
     pub fn status(&self) -> u8 {
         match self {
-            Self::Refused(..) => 1,
+            Self::Refused(..) | Self::Mendable(..) => 1,
             Self::Usage(_) => 2,
             Self::Host(..) => 3,
             Self::Differs(..) => 4,
@@ -59,9 +61,13 @@ impl fmt::Display for Failure {
     fn fmt(&self, f: &mut fmt::Formatter<'_>) -> fmt::Result {
         match self {
             Self::Usage(why) => f.write_str(why),
-            Self::Refused(image, refusal) => {
+            Self::Refused(image, refusal) | Self::Mendable(image, refusal) => {
                 let (number, words) = (refusal.number, words::refusal(*refusal));
-                write!(f, "{}: refused {number}: {words}", image.display())
+                write!(f, "{}: refused {number}: {words}", image.display())?;
+                match self {
+                    Self::Mendable(..) => f.write_str(" (tfs mend helps)"),
+                    _ => Ok(()),
+                }
             }
             Self::Host(path, why) | Self::Differs(path, why) | Self::Malformed(path, why) => {
                 write!(f, "{}: {why}", path.display())

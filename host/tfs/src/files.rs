@@ -1,17 +1,21 @@
 //! Host files, written whole or not at all.
 //!
 //! What is written goes to a temporary file or folder beside its place, and is then renamed. A
-//! failure on the way removes it.
+//! failure on the way removes it. Only a file that is opened to be changed in place is not so; a
+//! block device is never replaced by a file.
 
 use crate::failure::Failure;
 use std::fs::{self, File, Metadata, OpenOptions};
 use std::io::{self, ErrorKind, Read, Write};
 use std::os::unix::ffi::OsStrExt;
-use std::os::unix::fs::{fchown, MetadataExt, OpenOptionsExt};
+use std::os::unix::fs::{fchown, FileTypeExt, MetadataExt, OpenOptionsExt};
 use std::path::{Path, PathBuf};
 
 /// The name of standard input and output where a host file is asked for.
 pub const STANDARD: &str = "-";
+
+/// Why a device is not written whole.
+const DEVICE: &str = "is a block device; write a plain file and copy it there";
 
 /// Reads a file.
 pub fn read(path: &Path) -> Result<Vec<u8>, Failure> {
@@ -115,8 +119,29 @@ impl Prepared {
     }
 }
 
+/// Tells whether a path leads to a block device.
+pub fn is_block_device(path: &Path) -> bool {
+    fs::metadata(path).is_ok_and(|found| found.file_type().is_block_device())
+}
+
+/// Opens a plain file or a block device to change some of its bytes.
+pub fn open_in_place(path: &Path) -> Result<File, Failure> {
+    let open = || {
+        let file = OpenOptions::new().write(true).open(path)?;
+        let found = file.metadata()?;
+        match found.is_file() || found.file_type().is_block_device() {
+            true => Ok(file),
+            false => Err(io::Error::other("not a plain file or a block device")),
+        }
+    };
+    open().map_err(|error| Failure::host(path, error))
+}
+
 /// Writes a file where none stands.
 pub fn write_new(path: &Path, bytes: &[u8]) -> Result<(), Failure> {
+    if is_block_device(path) {
+        return Err(Failure::host(path, DEVICE));
+    }
     if stands(path) {
         return Err(Failure::host(path, "exists already (--force replaces it)"));
     }
@@ -166,6 +191,9 @@ fn new(path: &Path, bytes: &[u8]) -> io::Result<(PathBuf, Temporary)> {
 fn replacement(path: &Path, bytes: &[u8]) -> io::Result<(PathBuf, Temporary)> {
     let path = fs::canonicalize(path)?;
     let old = fs::metadata(&path)?;
+    if old.file_type().is_block_device() {
+        return Err(io::Error::other(DEVICE));
+    }
     if !old.is_file() {
         return Err(io::Error::other("not a plain file"));
     }

@@ -11,6 +11,7 @@ mod failure;
 mod files;
 mod image;
 mod rom;
+mod stores;
 mod trace;
 mod volume;
 mod words;

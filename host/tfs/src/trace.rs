@@ -92,7 +92,7 @@ pub fn replay(path: &Path, trace_path: &Path, out: Option<&Path>) -> Outcome {
         files::apart(out, path, "the image")?;
         files::apart(out, trace_path, "the trace")?;
     }
-    let image = Image::load(path)?;
+    let image = Image::load_volume(path)?;
     let trace = files::read(trace_path)?;
     let mut volume = image.bytes.clone();
     let replayed = trace::replay(&mut volume, &trace).map_err(|refusal| image.refused(refusal))?;

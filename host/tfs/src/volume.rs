@@ -2,7 +2,8 @@
 
 use crate::failure::{Failure, Outcome};
 use crate::files::{self, STANDARD};
-use crate::image::Image;
+use crate::image::{Changing, Image};
+use crate::stores::{Change, BLOCK_SIZE};
 use crate::trace::Session;
 use crate::words;
 use proved::tfs::{self, Transferred};
@@ -34,14 +35,14 @@ pub fn make(path: &Path, size: u32, label: &[u8], force: bool) -> Outcome {
 
 /// Checks a volume.
 pub fn check(path: &Path) -> Outcome {
-    let image = Image::load(path)?;
+    let image = Image::load_volume(path)?;
     tfs::check(&image.bytes).map_err(|refusal| image.refused(refusal))?;
     Ok(b"consistent\n".to_vec())
 }
 
 /// Lists the files of a volume.
 pub fn list(path: &Path) -> Outcome {
-    let image = Image::load(path)?;
+    let image = Image::load_volume(path)?;
     let mut lines = String::new();
     for slot in 0..SLOTS {
         let listed = tfs::list(&image.bytes, slot).map_err(|refusal| image.refused(refusal))?;
@@ -56,7 +57,7 @@ pub fn list(path: &Path) -> Outcome {
 /// Gives the free bytes of a volume.
 pub fn free(path: &Path, record: Option<&Path>) -> Outcome {
     let mut session = Session::open(record, path)?;
-    let image = Image::load(path)?;
+    let image = Image::load_volume(path)?;
     match session.free_bytes(&image.bytes) {
         Err(refusal) => Err(session.refused(&image, refusal)),
         Ok(free) => {
@@ -74,6 +75,8 @@ pub struct Put<'a> {
     pub replace: bool,
     /// Whether the number of content blocks is told.
     pub blocks: bool,
+    /// Whether the image is changed store by store.
+    pub in_place: bool,
 }
 
 /// Puts a host file into a volume.
@@ -84,24 +87,21 @@ pub fn put(path: &Path, given: &Put<'_>, record: Option<&Path>) -> Outcome {
         .or_else(|| base_name(host))
         .ok_or_else(|| Failure::Usage(format!("put: {}: give a --name", host.display())))?;
     let mut session = Session::open(record, path)?;
-    let mut image = Image::load(path)?;
+    let mut changing = Changing::load(path, given.in_place)?;
     // One byte more than a file may have is enough for the refusal.
     let content = files::read_at_most(host, LARGEST_FILE as usize + 1)?;
-    let written = match store(
-        &mut session,
-        &mut image.bytes,
-        name,
-        &content,
-        given.replace,
-    ) {
-        Err(refusal) => return Err(session.refused(&image, refusal)),
-        Ok(written) => written,
+    let volume = &mut changing.image.bytes;
+    let stored = store(&mut session, volume, name, &content, given.replace);
+    let (changes, written) = match stored {
+        Err(refusal) => return Err(session.refused(&changing.image, refusal)),
+        Ok(stored) => stored,
     };
     let Transferred { count, blocks } = written;
     if count as usize != content.len() {
-        return Err(image.unread(format!("{count} of {} bytes written", content.len())));
+        let why = format!("{count} of {} bytes written", content.len());
+        return Err(changing.image.unread(why));
     }
-    session.save_with(path, || image.save())?;
+    session.save_with(path, || changing.save(&changes))?;
     Ok(told(given.blocks, blocks))
 }
 
@@ -121,21 +121,27 @@ fn base_name(host: &Path) -> Option<&[u8]> {
     host.file_name().map(OsStr::as_bytes)
 }
 
-fn store(
+/// Puts content into a volume in memory; gives the changes that were granted, and what was written.
+fn store<'a>(
     session: &mut Session,
     volume: &mut [u8],
-    name: &[u8],
-    content: &[u8],
+    name: &'a [u8],
+    content: &'a [u8],
     replace: bool,
-) -> Result<Transferred, Refusal> {
+) -> Result<(Vec<Change<'a>>, Transferred), Refusal> {
+    let mut changes = Vec::new();
     if replace {
         match session.remove(volume, name) {
             Err(refusal) if refusal.number != NO_SUCH_NAME => return Err(refusal),
-            _ => {}
+            Err(_) => {}
+            Ok(()) => changes.push(Change::Remove(name)),
         }
     }
-    session.create(volume, name, content.len() as u32)?;
-    session.write(volume, name, 0, content)
+    let size = content.len() as u32;
+    session.create(volume, name, size)?;
+    let written = session.write(volume, name, 0, content)?;
+    changes.extend([Change::Create(name, size), Change::Write(name, content)]);
+    Ok((changes, written))
 }
 
 /// What is got: a file, into a host file of its own name or another.
@@ -154,7 +160,7 @@ pub fn get(path: &Path, given: &Get<'_>, record: Option<&Path>) -> Outcome {
         None => as_host_file(given.name)?,
     };
     let mut session = Session::open(record, path)?;
-    let image = Image::load(path)?;
+    let image = Image::load_volume(path)?;
     let read = session.read(&image.bytes, given.name.as_bytes(), 0, LARGEST_FILE);
     let content = match read {
         Ok(content) => content,
@@ -187,12 +193,32 @@ fn as_host_file(name: &OsStr) -> Result<&Path, Failure> {
 }
 
 /// Removes a file from a volume.
-pub fn remove(path: &Path, name: &[u8], record: Option<&Path>) -> Outcome {
+pub fn remove(path: &Path, name: &[u8], record: Option<&Path>, in_place: bool) -> Outcome {
     let mut session = Session::open(record, path)?;
-    let mut image = Image::load(path)?;
-    if let Err(refusal) = session.remove(&mut image.bytes, name) {
-        return Err(session.refused(&image, refusal));
+    let mut changing = Changing::load(path, in_place)?;
+    if let Err(refusal) = session.remove(&mut changing.image.bytes, name) {
+        return Err(session.refused(&changing.image, refusal));
     }
-    session.save_with(path, || image.save())?;
+    session.save_with(path, || changing.save(&[Change::Remove(name)]))?;
     Ok(Vec::new())
+}
+
+/// Clears the bits of a volume's map that nobody claims, and tells how many; a volume without such
+/// bits is not written.
+pub fn mend(path: &Path, in_place: bool) -> Outcome {
+    let mut changing = Changing::load(path, in_place)?;
+    let before = changing.image.bytes.clone();
+    let mended = tfs::mend(&mut changing.image.bytes);
+    mended.map_err(|refusal| changing.image.refused(refusal))?;
+    let cleared = ones_of_map(&before) - ones_of_map(&changing.image.bytes);
+    if cleared > 0 {
+        changing.save(&[Change::Mend])?;
+    }
+    Ok(format!("map bits cleared: {cleared}\n").into_bytes())
+}
+
+/// The number of set bits in the map of a volume.
+fn ones_of_map(volume: &[u8]) -> u32 {
+    let map = &volume[BLOCK_SIZE..2 * BLOCK_SIZE];
+    map.iter().map(|byte| byte.count_ones()).sum()
 }

@@ -25,6 +25,9 @@ fn missing_files_are_named() {
         "put no in",
         "get no in",
         "remove no in",
+        "mend no",
+        "put no in --in-place",
+        "mend no --in-place",
         "dump no map",
     ] {
         folder.refused(line, 3, &format!("no: {MISSING}"));

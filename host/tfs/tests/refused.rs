@@ -25,6 +25,10 @@ fn every_fault_of_a_volume_is_named() {
             "put v in --replace",
             "get v in",
             "remove v in",
+            "mend v",
+            "put v in --in-place",
+            "remove v in --in-place",
+            "mend v --in-place",
         ] {
             folder.refused(line, 1, &message);
         }

@@ -197,7 +197,7 @@ fn a_refused_volume_is_not_replayed() {
     let mut image = folder.read("v");
     image[515] = 0x0F;
     folder.write("v", &image);
-    let message = "v: refused 7: block 3 has a map bit that differs from its use";
+    let message = "v: refused 7: block 3 has a map bit that differs from its use (tfs mend helps)";
     folder.refused("replay v t --out w", 1, message);
     folder.write("t", b"\x06");
     folder.refused("replay v t --out w", 1, message);

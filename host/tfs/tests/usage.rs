@@ -4,30 +4,34 @@ mod bench;
 
 use bench::Folder;
 
-const PUT: &str = "put IMAGE HOSTFILE [--name NAME] [--replace] [--blocks] [--record TRACE]";
+const PUT: &str =
+    "put IMAGE HOSTFILE [--name NAME] [--replace] [--blocks] [--in-place] [--record TRACE]";
+
+/// The commands, each with the first of its words.
+const COMMANDS: [&str; 16] = [
+    "make IMAGE",
+    "check IMAGE",
+    "list IMAGE",
+    "free IMAGE",
+    "put IMAGE",
+    "get IMAGE",
+    "remove IMAGE",
+    "mend IMAGE",
+    "replay IMAGE",
+    "trace show TRACE",
+    "trace make LINES",
+    "dump IMAGE",
+    "rom check IMAGE",
+    "rom list IMAGE",
+    "rom extract IMAGE",
+    "rom cat IMAGE",
+];
 
 #[test]
 fn help_tells_of_every_command() {
     let folder = Folder::new("help");
     let overview = folder.tfs("--help").text();
-    let commands = [
-        "make IMAGE",
-        "check IMAGE",
-        "list IMAGE",
-        "free IMAGE",
-        "put IMAGE",
-        "get IMAGE",
-        "remove IMAGE",
-        "replay IMAGE",
-        "trace show TRACE",
-        "trace make LINES",
-        "dump IMAGE",
-        "rom check IMAGE",
-        "rom list IMAGE",
-        "rom extract IMAGE",
-        "rom cat IMAGE",
-    ];
-    for usage in commands {
+    for usage in COMMANDS {
         assert!(overview.contains(&format!("\n  tfs {usage}")), "{usage}");
         let (command, _) = usage.rsplit_once(' ').unwrap();
         let help = folder.tfs(&format!("{command} --help")).text();
@@ -78,6 +82,8 @@ fn wrong_arguments_have_status_2() {
         ("check", "an argument is missing", "check IMAGE"),
         ("check a b", "too many arguments", "check IMAGE"),
         ("check v --all", "unknown option --all", "check IMAGE"),
+        ("mend", "an argument is missing", "mend IMAGE [--in-place]"),
+        ("mend a b", "too many arguments", "mend IMAGE [--in-place]"),
         ("put v f --name", "--name needs a value", PUT),
         ("put v f --replace=1", "--replace has no value", PUT),
     ];

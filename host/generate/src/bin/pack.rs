@@ -13,7 +13,8 @@
 //! A *number* is four bytes and a *hash* eight, both big-endian. *Bytes* are a number, which
 //! is their length, and then so many bytes. The file is a number, which is the count of cases,
 //! and then the cases one after another with nothing between or behind them. Each case has the
-//! same parts in the same order, and the parts that its request has no use for are 0 or empty:
+//! same parts in the same order, and the parts that its request has no use for are 0 or empty; only
+//! requests 12, 13 and 14 have the parts that are marked with them:
 //!
 //! | Part | Form | Meaning |
 //! |---|---|---|
@@ -22,6 +23,8 @@
 //! | name | bytes | name given to the request |
 //! | buffer | bytes | buffer as it is before the request; a trace where the request has one |
 //! | image | bytes | image as it is before the request |
+//! | k (12, 13, 14) | two numbers, the higher 32 bits first | which store, from 1 |
+//! | bytes (12, 13, 14) | bytes | what is to be written; empty but for 14 |
 //! | refusal | number | number of the refusal, 0 if granted |
 //! | place | number | place of the refusal, 0 if granted |
 //! | values | count as a number, then so many numbers | result, no values if refused |
@@ -42,6 +45,10 @@
 //! | 7 | TFS list | number = slot | 0 for a free slot; else 1, inode number, size, and text = name | - |
 //! | 8 | TFS free bytes | | free bytes | - |
 //! | 9 | TFS replay | buffer = trace | outcome (0 all replayed, 1 malformed, 2 differs), number of records or of the record | image |
+//! | 12 | TFS create's k-th store | number = size, name, buffer, k | number of the block | buffer |
+//! | 13 | TFS remove's k-th store | name, buffer, k | number of the block | buffer |
+//! | 14 | TFS write's k-th store | number = offset, name, buffer, k, bytes | number of the block | buffer |
+//! | 15 | TFS mend | | | image |
 //! | 17 | romfs check | | | - |
 //! | 18 | romfs find | number = directory, name | offset of the header | - |
 //! | 19 | romfs entry | number = header | type, executable (0 or 1), spec.info, size, next, name length | - |
@@ -54,7 +61,7 @@ use std::env;
 use std::fs;
 use std::process::ExitCode;
 
-use generate::cases::{romfs_cases, tfs_cases, Case};
+use generate::cases::{romfs_cases, stored, tfs_cases, Case};
 
 const USAGE: &str = "usage: pack tfs|romfs OUT [--seed S] [--cases N] [--large]";
 
@@ -129,6 +136,10 @@ fn put_case(out: &mut Vec<u8>, case: &Case) {
     put_bytes(out, &arguments.name);
     put_bytes(out, &arguments.buffer);
     put_bytes(out, image);
+    if stored(*request).is_some() {
+        out.extend_from_slice(&(arguments.k as u64).to_be_bytes());
+        put_bytes(out, &arguments.bytes);
+    }
     put_number(out, answer.number);
     put_number(out, answer.place);
     put_number(out, answer.values.len() as u32);
@@ -191,6 +202,30 @@ mod tests {
         let mut end = [0u32, 0, 2, 3, 2, 0].map(u32::to_be_bytes).concat();
         end.extend(case.answer.hash.to_be_bytes());
         assert!(packed.ends_with(&end));
+    }
+
+    #[test]
+    fn a_store_has_its_number_and_the_bytes_to_be_written() {
+        use reference::request::{Arguments, Request};
+        let arguments = Arguments {
+            number: 9,
+            name: b"n".to_vec(),
+            buffer: vec![0xCD],
+            k: 0x0102_0304_0506_0708,
+            bytes: vec![0xEF, 0x12],
+            ..Arguments::default()
+        };
+        for (request, number) in [(Request::TfsWriteStore, 14), (Request::TfsMend, 15)] {
+            let case = Case::new(request, arguments.clone(), &[0xAB]);
+            let mut expected = vec![0, 0, 0, 1, number, 0, 0, 0, 9, 0, 0, 0, 1, b'n'];
+            expected.extend([0, 0, 0, 1, 0xCD, 0, 0, 0, 1, 0xAB]);
+            if number == 14 {
+                expected.extend([1, 2, 3, 4, 5, 6, 7, 8, 0, 0, 0, 2, 0xEF, 0x12]);
+            }
+            expected.extend([1u32, 0, 0, 0].map(u32::to_be_bytes).concat());
+            expected.extend(case.answer.hash.to_be_bytes());
+            assert_eq!(pack(&[case]), expected);
+        }
     }
 
     #[test]

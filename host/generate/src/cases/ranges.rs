@@ -10,9 +10,9 @@ use crate::Random;
 const BLOCK: u32 = BLOCK_SIZE as u32;
 
 /// An offset in a file, and the length of a buffer.
-pub(super) struct Range {
-    pub(super) offset: u32,
-    pub(super) length: usize,
+pub(crate) struct Range {
+    pub(crate) offset: u32,
+    pub(crate) length: usize,
 }
 
 impl Range {
@@ -27,7 +27,7 @@ impl Range {
 
 /// Draws a range in a file of some size: an empty one, one whose buffer is longer than the rest of
 /// the file, a few bytes over an edge, or one that ends inside the file or with it.
-pub(super) fn around_edges(random: &mut Random, size: u32) -> Range {
+pub(crate) fn around_edges(random: &mut Random, size: u32) -> Range {
     match random.below(9) {
         0 => {
             let offset = near_edge(random, 0, size);

@@ -7,14 +7,14 @@ use super::case::Case;
 use super::drawn::Drawn;
 use super::tfs_arguments::{size, tfs_arguments};
 use super::trace_arguments::trace_arguments;
-use super::{ranges, traces};
+use super::{mends, ranges, stores, traces};
 use crate::tfs::{
     any_volume, change_case, damage_slot, damage_volume, damage_volume_twice, has_leftovers,
     padding, scramble_volume, volume, File, Shape, SlotFault, Volume,
 };
 use crate::Random;
 
-const OTHERS: [Request; 12] = [
+const OTHERS: [Request; 16] = [
     Request::TfsCreate,
     Request::TfsRead,
     Request::TfsWrite,
@@ -27,14 +27,18 @@ const OTHERS: [Request; 12] = [
     Request::TfsReplay,
     Request::TfsFormat,
     Request::TfsFree,
+    Request::TfsCreateStore,
+    Request::TfsRemoveStore,
+    Request::TfsWriteStore,
+    Request::TfsMend,
 ];
 
 /// Draws cases on TFS volumes: a check of every image, other requests on some of them.
 ///
-/// Every answer of every request, every way to break a slot, every place where the end of a volume
-/// cuts a word of the map, and reads and writes around the edges of blocks come up before the rest
-/// is left to chance. Volumes have 40 blocks at most, but some have up to 133; with `large` the last
-/// few cases are on a volume of 4096 blocks.
+/// Every answer of every request, every way to break a slot or the map, every place where the end
+/// of a volume cuts a word of the map, reads and writes around the edges of blocks, and every store
+/// of some requests come up before the rest is left to chance. Volumes have 40 blocks at most, but
+/// some have up to 133; with `large` the last few cases are on a volume of 4096 blocks.
 pub fn tfs_cases(seed: u64, count: usize, large: bool) -> Vec<Case> {
     let mut drawn = Drawn::new(seed);
     let last = if large {
@@ -89,6 +93,9 @@ fn on_volume(drawn: &mut Drawn, made: &Volume) {
         }
         Some(image) => {
             drawn.add_plain(Request::TfsCheck, &image);
+            if drawn.random.one_in(2) {
+                drawn.add_plain(Request::TfsMend, &image);
+            }
             if drawn.random.one_in(3) {
                 other(drawn, made, &image);
             }
@@ -160,6 +167,8 @@ fn one_of_each(drawn: &mut Drawn) {
     slot_faults(drawn, &made);
     slot_faults(drawn, &crowded);
     traces::one_of_each(drawn, &made, &damaged);
+    stores::one_of_each(drawn, &crowded, &damaged);
+    mends::one_of_each(drawn, &made, &damaged);
 }
 
 /// A small volume of several files, the largest of which has a name of some letters, and one that

@@ -4,6 +4,7 @@ use reference::request::{Arguments, Request};
 use reference::tfs::{BLOCK_SIZE, LARGEST_FILE, SLOTS};
 
 use super::ranges::{around_edges, Range};
+use super::store_arguments::{count, store_arguments, stored};
 use crate::tfs::{not_allowed, similar, File, Volume};
 use crate::Random;
 
@@ -30,8 +31,26 @@ pub fn tfs_arguments(random: &mut Random, made: &Volume, request: Request) -> Ar
             number: slot(random, made),
             ..Arguments::default()
         },
-        _ => Arguments::default(),
+        _ => match stored(request) {
+            None => Arguments::default(),
+            Some(whole) => {
+                let arguments = with_stores(random, made, request, whole);
+                store_arguments(random, made, request, arguments)
+            }
+        },
     }
+}
+
+/// Arguments of a whole request, drawn again, if need be, until it has stores, but a few times only.
+fn with_stores(random: &mut Random, made: &Volume, request: Request, whole: Request) -> Arguments {
+    let mut arguments = tfs_arguments(random, made, whole);
+    for _ in 0..random.below(6) {
+        if count(made, request, &arguments) > 0 {
+            break;
+        }
+        arguments = tfs_arguments(random, made, whole);
+    }
+    arguments
 }
 
 /// A file that stands, but one that is gone once in `times`, and where no other is left.

@@ -1,13 +1,14 @@
 //! Volumes with faults of a known number and place.
 
+mod map;
 mod slots;
 
 use reference::tfs::{BLOCK_SIZE, LARGEST_FILE, SLOTS};
 use reference::Refusal;
 
 use super::made::{File, Volume};
-use super::volume::map_byte;
 use crate::Random;
+pub use map::{damage_map, stray_beside, DamagedMap, MapFault};
 pub use slots::SlotFault;
 
 /// Breaks one of the rules 1 to 7 and gives the image with the answer that a check owes it.
@@ -240,8 +241,7 @@ impl<'a> Damage<'a> {
                 break block;
             }
         };
-        self.image[BLOCK_SIZE + map_byte(block)] ^= 1 << (block % 8);
-        self.flipped.push(block);
+        self.flip(block);
         block as u32
     }
 }

@@ -32,7 +32,7 @@ pub struct Volume {
 
 impl Volume {
     /// A volume of so many blocks without files, and as yet without an image.
-    pub(super) fn empty(blocks: usize) -> Self {
+    pub(crate) fn empty(blocks: usize) -> Self {
         Self {
             image: Vec::new(),
             blocks,
@@ -68,7 +68,8 @@ impl Volume {
         self.files.sort_by_key(|file| file.slot);
     }
 
-    /// Takes note of all files of a consistent image, after requests that were not noted.
+    /// Takes note of all files of an image that breaks none of the first six rules, after requests
+    /// that were not noted.
     pub fn look(&mut self, image: &[u8]) {
         let slots = image[2 * BLOCK_SIZE..]
             .as_chunks::<20>()

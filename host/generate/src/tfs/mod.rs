@@ -9,7 +9,10 @@ mod padding;
 mod sizes;
 mod volume;
 
-pub use faults::{damage_slot, damage_volume, damage_volume_twice, scramble_volume, SlotFault};
+pub use faults::{
+    damage_map, damage_slot, damage_volume, damage_volume_twice, scramble_volume, stray_beside,
+    DamagedMap, MapFault, SlotFault,
+};
 pub use leftovers::{has_leftovers, leftovers, put_leftovers};
 pub use made::{File, Volume};
 pub(crate) use names::{change_case, not_allowed, similar};

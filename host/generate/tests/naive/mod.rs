@@ -1,4 +1,6 @@
-//! The two checks once more, literal and slow, to compare the quick ones with.
+//! The two checks and the mend once more, literal and slow, to compare the quick ones with.
+
+#![allow(dead_code)]
 
 use std::collections::{BTreeMap, HashMap};
 
@@ -118,6 +120,25 @@ fn map_fault(image: &[u8], n: usize) -> Fault {
         }
     }
     None
+}
+
+/// The image with every set bit from block 3 on that nobody claims cleared, or the fault that it
+/// then still has.
+pub fn tfs_mend(image: &[u8]) -> Result<Vec<u8>, (u32, u32)> {
+    if let Some(fault) = tfs_fault(image).filter(|fault| fault.0 < 7) {
+        return Err(fault);
+    }
+    let claims = claims(image);
+    let mut cleared = image.to_vec();
+    for b in 3..(image.len() / 512).min(4096) {
+        if !claims.contains_key(&b) {
+            cleared[512 + 4 * (b / 32) + 3 - b % 32 / 8] &= !(1 << (b % 8));
+        }
+    }
+    match tfs_fault(&cleared) {
+        Some(fault) => Err(fault),
+        None => Ok(cleared),
+    }
 }
 
 fn words_sum(image: &[u8], from: usize, to: usize) -> usize {

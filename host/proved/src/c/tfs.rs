@@ -8,7 +8,7 @@ pub struct Answer {
     pub refusal: u32,
     /// The slot or block at fault.
     pub place: u32,
-    /// An inode number, a count or free bytes.
+    /// An inode number, a count, free bytes or the number of a block.
     pub value: u32,
     /// Granted reads and writes: how many content blocks the bytes lie in.
     pub blocks: u32,
@@ -75,6 +75,38 @@ extern "C" {
     ) -> Answer;
     fn tfs_list(image: *const u8, image_length: usize, slot: u32) -> Slot;
     fn tfs_free_bytes(image: *const u8, image_length: usize) -> Answer;
+    fn tfs_create_store(
+        image: *const u8,
+        image_length: usize,
+        name: *const u8,
+        name_length: usize,
+        size: u32,
+        k: usize,
+        buffer: *mut u8,
+        buffer_length: usize,
+    ) -> Answer;
+    fn tfs_remove_store(
+        image: *const u8,
+        image_length: usize,
+        name: *const u8,
+        name_length: usize,
+        k: usize,
+        buffer: *mut u8,
+        buffer_length: usize,
+    ) -> Answer;
+    fn tfs_write_store(
+        image: *const u8,
+        image_length: usize,
+        name: *const u8,
+        name_length: usize,
+        offset: u32,
+        bytes: *const u8,
+        bytes_length: usize,
+        k: usize,
+        buffer: *mut u8,
+        buffer_length: usize,
+    ) -> Answer;
+    fn tfs_mend(image: *mut u8, image_length: usize) -> Answer;
 }
 
 /// Makes an empty volume.
@@ -143,4 +175,65 @@ pub fn list(image: &[u8], slot: u32) -> Slot {
 /// The free bytes.
 pub fn free_bytes(image: &[u8]) -> Answer {
     unsafe { tfs_free_bytes(image.as_ptr(), image.len()) }
+}
+
+/// The k-th store of a create; the number of its block.
+pub fn create_store(image: &[u8], name: &[u8], size: u32, k: usize, buffer: &mut [u8]) -> Answer {
+    unsafe {
+        tfs_create_store(
+            image.as_ptr(),
+            image.len(),
+            name.as_ptr(),
+            name.len(),
+            size,
+            k,
+            buffer.as_mut_ptr(),
+            buffer.len(),
+        )
+    }
+}
+
+/// The k-th store of a remove; the number of its block.
+pub fn remove_store(image: &[u8], name: &[u8], k: usize, buffer: &mut [u8]) -> Answer {
+    unsafe {
+        tfs_remove_store(
+            image.as_ptr(),
+            image.len(),
+            name.as_ptr(),
+            name.len(),
+            k,
+            buffer.as_mut_ptr(),
+            buffer.len(),
+        )
+    }
+}
+
+/// The k-th store of a write of these bytes; the number of its block.
+pub fn write_store(
+    image: &[u8],
+    name: &[u8],
+    offset: u32,
+    bytes: &[u8],
+    k: usize,
+    buffer: &mut [u8],
+) -> Answer {
+    unsafe {
+        tfs_write_store(
+            image.as_ptr(),
+            image.len(),
+            name.as_ptr(),
+            name.len(),
+            offset,
+            bytes.as_ptr(),
+            bytes.len(),
+            k,
+            buffer.as_mut_ptr(),
+            buffer.len(),
+        )
+    }
+}
+
+/// Clears the map bits that nobody claims.
+pub fn mend(image: &mut [u8]) -> Answer {
+    unsafe { tfs_mend(image.as_mut_ptr(), image.len()) }
 }

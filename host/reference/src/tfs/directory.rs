@@ -1,8 +1,8 @@
 //! Requests about names and room.
 
+use super::effects::{Creation, Removal};
 use super::layout::{
-    blocks_for, blocks_mut, content_numbers, file_size, mark, set_word, slots_mut, Name, Slot,
-    BLOCK_SIZE, DIRECTORY, LARGEST_FILE, MAGIC, MAP, MOST_CONTENT, SLOTS,
+    blocks_mut, file_size, set_word, Name, Slot, BLOCK_SIZE, DIRECTORY, MAGIC, MAP, SLOTS,
 };
 use super::volume::{checked, Open};
 use crate::Refusal;
@@ -50,38 +50,15 @@ pub(super) fn create_in(
     name: &[u8],
     size: u32,
 ) -> Result<u32, Refusal> {
-    let volume = open(image)?;
-    let name = Name::of_file(name).ok_or(Refusal::plain(8))?;
-    if size > LARGEST_FILE {
-        return Err(Refusal::plain(9));
-    }
-    if volume.find(&name).is_some() {
-        return Err(Refusal::plain(10));
-    }
-    let slot = volume.free_slot().ok_or(Refusal::plain(11))?;
-    let needed = 1 + blocks_for(size);
-    if (volume.free_count() as usize) < needed {
-        return Err(Refusal::plain(12));
-    }
-    let mut space = [0; 1 + MOST_CONTENT];
-    let chosen = &mut space[..needed];
-    for (number, free) in chosen.iter_mut().zip(volume.free_blocks()) {
-        *number = free;
-    }
-
+    let creation = Creation::plan(open, image, name, size)?;
     let blocks = blocks_mut(image);
-    for &number in chosen.iter() {
+    for &number in creation.content() {
         blocks[number as usize].fill(0);
-        mark(&mut blocks[MAP], number, true);
     }
-    let inode = chosen[0];
-    let record = &mut blocks[inode as usize];
-    set_word(record, 0, size);
-    for (index, &number) in chosen.iter().enumerate().skip(1) {
-        set_word(record, index, number);
-    }
-    slots_mut(&mut blocks[DIRECTORY])[slot] = Slot::encode(inode, &name);
-    Ok(inode)
+    creation.fill_inode(&mut blocks[creation.inode() as usize]);
+    creation.set_bits(&mut blocks[MAP]);
+    creation.fill_slot(&mut blocks[DIRECTORY]);
+    Ok(creation.inode())
 }
 
 /// Takes a file out of the directory and gives its blocks back.
@@ -91,15 +68,10 @@ pub fn remove(image: &mut [u8], name: &[u8]) -> Result<(), Refusal> {
 
 #[inline]
 pub(super) fn remove_in(open: Open, image: &mut [u8], name: &[u8]) -> Result<(), Refusal> {
-    let (slot, inode) = open(image)?.lookup(name)?;
+    let removal = Removal::plan(open, image, name)?;
     let blocks = blocks_mut(image);
-    let record = blocks[inode as usize];
-    let map = &mut blocks[MAP];
-    mark(map, inode, false);
-    for number in content_numbers(&record) {
-        mark(map, number, false);
-    }
-    slots_mut(&mut blocks[DIRECTORY])[slot].fill(0);
+    removal.clear_bits(&mut blocks[MAP]);
+    removal.clear_slot(&mut blocks[DIRECTORY]);
     Ok(())
 }
 

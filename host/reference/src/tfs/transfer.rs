@@ -15,18 +15,6 @@ pub struct Transferred {
     pub blocks: u32,
 }
 
-impl Transferred {
-    /// So many bytes of a file from an offset on. A sound inode lists no block twice, so that the
-    /// blocks that they meet in the file's order are distinct.
-    fn of(offset: u32, count: usize) -> Self {
-        let count = count as u32;
-        Self {
-            count,
-            blocks: blocks_met(offset, count, BLOCK_SIZE as u32),
-        }
-    }
-}
-
 /// How many blocks a range of so many bytes meets, from an offset on. The range ends below 2^32.
 pub const fn blocks_met(offset: u32, count: u32, block_size: u32) -> u32 {
     if count == 0 {
@@ -43,15 +31,15 @@ pub fn read(
     offset: u32,
     buffer: &mut [u8],
 ) -> Result<Transferred, Refusal> {
-    let runs = Runs::plan(checked, image, name, offset, buffer.len())?;
-    let count = runs.left;
-    let mut target = &mut buffer[..count];
-    for run in runs {
+    let stretch = Stretch::plan(checked, image, name, offset, buffer.len())?;
+    let moved = stretch.transferred();
+    let mut target = &mut buffer[..stretch.left];
+    for run in stretch {
         let (part, rest) = target.split_at_mut(run.len());
         part.copy_from_slice(&image[run]);
         target = rest;
     }
-    Ok(Transferred::of(offset, count))
+    Ok(moved)
 }
 
 /// Copies a buffer over the content of a file from an offset on.
@@ -72,15 +60,15 @@ pub(super) fn write_in(
     offset: u32,
     buffer: &[u8],
 ) -> Result<Transferred, Refusal> {
-    let runs = Runs::plan(open, image, name, offset, buffer.len())?;
-    let count = runs.left;
-    let mut source = &buffer[..count];
-    for run in runs {
+    let stretch = Stretch::plan(open, image, name, offset, buffer.len())?;
+    let moved = stretch.transferred();
+    let mut source = &buffer[..stretch.left];
+    for run in stretch {
         let (part, rest) = source.split_at(run.len());
         image[run].copy_from_slice(part);
         source = rest;
     }
-    Ok(Transferred::of(offset, count))
+    Ok(moved)
 }
 
 /// Tells whether a read into a buffer of some length would give exactly these bytes.
@@ -92,12 +80,12 @@ pub(super) fn reads_in(
     length: u32,
     bytes: &[u8],
 ) -> Result<bool, Refusal> {
-    let runs = Runs::plan(open, image, name, offset, length as usize)?;
-    if runs.left != bytes.len() {
+    let stretch = Stretch::plan(open, image, name, offset, length as usize)?;
+    if stretch.left != bytes.len() {
         return Ok(false);
     }
     let mut rest = bytes;
-    for run in runs {
+    for run in stretch {
         let (part, behind) = rest.split_at(run.len());
         if part != &image[run] {
             return Ok(false);
@@ -107,16 +95,18 @@ pub(super) fn reads_in(
     Ok(true)
 }
 
-/// The parts of an image that hold a stretch of a file, neighbouring blocks joined.
-struct Runs {
+/// A stretch of a file, given as the parts of the image that hold it, neighbouring blocks joined.
+pub(super) struct Stretch {
     inode: Block,
-    position: usize,
-    left: usize,
+    /// Where in the file it begins.
+    pub(super) position: usize,
+    /// How many bytes it has.
+    pub(super) left: usize,
 }
 
-impl Runs {
+impl Stretch {
     #[inline]
-    fn plan(
+    pub(super) fn plan(
         open: Open,
         image: &[u8],
         name: &[u8],
@@ -136,12 +126,23 @@ impl Runs {
         })
     }
 
-    fn block(&self, index: usize) -> usize {
+    /// The count, and the blocks met. A sound inode lists no block twice, so that the blocks that
+    /// are met in the file's order are distinct.
+    pub(super) fn transferred(&self) -> Transferred {
+        let count = self.left as u32;
+        Transferred {
+            count,
+            blocks: blocks_met(self.position as u32, count, BLOCK_SIZE as u32),
+        }
+    }
+
+    /// The number of the content block at a place of the file's order, from 0.
+    pub(super) fn block(&self, index: usize) -> usize {
         word(&self.inode, 1 + index) as usize
     }
 }
 
-impl Iterator for Runs {
+impl Iterator for Stretch {
     type Item = Range<usize>;
 
     fn next(&mut self) -> Option<Self::Item> {

@@ -14,6 +14,21 @@ pub fn check(image: &[u8]) -> Result<(), Refusal> {
 
 /// Checks an image and keeps its decoded directory.
 pub(super) fn checked(image: &[u8]) -> Result<Volume<'_>, Refusal> {
+    let Claims { volume, claimed } = claims(image)?;
+    check_map(volume.blocks, &claimed)?;
+    Ok(volume)
+}
+
+/// A volume that breaks no rule but perhaps the one on its map.
+pub(super) struct Claims<'a> {
+    volume: Volume<'a>,
+    /// The blocks whose bits are to be set: those that files claim, and the first three.
+    pub(super) claimed: BlockSet,
+}
+
+/// Checks all of an image but its map.
+#[inline]
+pub(super) fn claims(image: &[u8]) -> Result<Claims<'_>, Refusal> {
     let blocks = blocks(image);
     if blocks.len() <= DIRECTORY {
         return Err(Refusal::plain(1));
@@ -21,8 +36,8 @@ pub(super) fn checked(image: &[u8]) -> Result<Volume<'_>, Refusal> {
     check_label(&blocks[0])?;
     let slots = check_directory(blocks)?;
     let claimed = check_claims(blocks, &slots)?;
-    check_map(blocks, &claimed)?;
-    Ok(Volume { blocks, slots })
+    let volume = Volume { blocks, slots };
+    Ok(Claims { volume, claimed })
 }
 
 /// Takes an image that is known to be a consistent volume, and decodes its directory.

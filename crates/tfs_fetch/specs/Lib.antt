@@ -1,0 +1,4 @@
+pub mod Stored
+pub mod Create
+pub mod Remove
+pub mod Write

@@ -1,0 +1,4 @@
+pub mod Missing
+pub mod Extra
+pub mod Marked
+pub mod Mended

@@ -1,0 +1,29 @@
+//! Wrong programs told by the stored cases.
+
+use compare::{Lent, Lents, Side};
+use generate::cases::{fnv1a, tfs_cases, Case};
+use generate::Random;
+use reference::request::Request;
+
+/// Tells whether some stored case differs from what a program gives.
+pub fn tell(side: Side) -> bool {
+    let told = |case: &Case| case.request != Request::TfsReplay && differs(case, side);
+    tfs_cases(1, 600, false).iter().any(told)
+}
+
+fn differs(case: &Case, side: Side) -> bool {
+    let mut random = Random::new(0);
+    let mut lent = |bytes: &[u8]| Lent::new(&mut random, bytes);
+    let mut lents = Lents {
+        image: lent(&case.image),
+        name: lent(&case.arguments.name),
+        buffer: lent(&case.arguments.buffer),
+        bytes: lent(&case.arguments.bytes),
+    };
+    let answer = side(case.request, &case.arguments, &mut lents);
+    let owed = &case.answer;
+    let number = (answer.refusal(), answer.words[1] as u32);
+    let value = owed.values.first().copied().unwrap_or(0);
+    let hash = fnv1a(lents.image.bytes().iter().chain(lents.buffer.bytes()));
+    number != (owed.number, owed.place) || answer.value() != value || hash != owed.hash
+}
