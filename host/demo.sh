@@ -1,14 +1,17 @@
 #!/usr/bin/env bash
-# Builds the proved libraries, the host programs and the C example, then shows the main job on a sample volume.
+# Builds the proved libraries, the host programs and the C examples, then shows the main job on a sample volume.
 set -euo pipefail
 cd "$(dirname "$0")/.."
 
 echo "Building (the proofs are checked first: some minutes on a fresh machine)"
-for library in tfs_c tfs_trace_c romfs_c; do
+for library in tfs_c tfs_trace_c timing_c romfs_c; do
     rt staticlib "$library" 2>&1 | tail -n 1
 done
 (cd host && cargo build --quiet --release --offline)
-gcc -std=c99 -O2 -Iinclude host/example/example.c -Ltarget/staticlib -ltfs_trace_c -ltfs_c -lromfs_c -o target/example
+for example in example timing; do
+    gcc -std=c99 -O2 -Iinclude "host/example/$example.c" -Ltarget/staticlib -ltiming_c -ltfs_trace_c -ltfs_c -lromfs_c \
+        -o "target/$example"
+done
 
 folder=$(mktemp -d)
 trap 'rm -rf "$folder"' EXIT
@@ -29,6 +32,16 @@ show list pump.img
 show free pump.img
 show get pump.img TIMING -
 show dump pump.img slot 0
+
+echo
+echo "Values are stored for board 4711. Its boot gets them; another board's does not, and none does after the lid was opened."
+seq 11 38 > trained.txt
+show make board.img --size 64K
+show timing store board.img --board 4711 --maker 44 trained.txt
+show timing boot board.img --board 4711 --maker 44
+show timing boot board.img --board 4712 --maker 44
+show timing open-lid board.img --in-place
+show timing boot board.img --board 4711 --maker 44
 
 echo
 echo "A session on another volume is recorded, and replayed on the volume as it was."

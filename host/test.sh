@@ -25,17 +25,18 @@ part() {
     fi
 }
 
+# An example in C: its name, then the file with what it prints.
 example() {
-    gcc -std=c99 -Wall -Wextra -pedantic -Werror -O2 -I../include example/example.c \
-        -L"$libraries" -ltfs_trace_c -ltfs_c -lromfs_c -o "$work/example" &&
-        "$work/example" >"$work/printed" &&
-        diff -u example/expected.txt "$work/printed"
+    gcc -std=c99 -Wall -Wextra -pedantic -Werror -O2 -I../include "example/$1.c" \
+        -L"$libraries" -ltiming_c -ltfs_trace_c -ltfs_c -lromfs_c -o "$work/$1" &&
+        "$work/$1" >"$work/printed" &&
+        diff -u "example/$2" "$work/printed"
 }
 
 # Fails where a request uses more stack than the headers say.
 stack() {
-    gcc -std=gnu99 -Wall -Wextra -Werror -O2 -I../include bench/stack.c -L"$libraries" -ltfs_trace_c -ltfs_c -lromfs_c \
-        -lpthread -Wl,-z,now -o "$work/stack" && "$work/stack"
+    gcc -std=gnu99 -Wall -Wextra -Werror -O2 -I../include bench/stack.c -L"$libraries" \
+        -ltiming_c -ltfs_trace_c -ltfs_c -lromfs_c -lpthread -Wl,-z,now -o "$work/stack" && "$work/stack"
 }
 
 # The proved program over pairs of files.
@@ -47,7 +48,7 @@ program() {
     cargo test --offline -p program
 }
 
-for name in tfs_c tfs_trace_c romfs_c; do
+for name in tfs_c tfs_trace_c timing_c romfs_c; do
     if [ ! -f "$libraries/lib$name.a" ]; then
         echo "host tests: target/staticlib/lib$name.a is missing; it is made by: rt staticlib $name"
         failed=1
@@ -58,7 +59,8 @@ done
 part "build" cargo build --release --offline
 part "tests" cargo test --offline --workspace --exclude program
 part "program replay" program
-part "C example" example
+part "C example" example example expected.txt
+part "C example of the timing file" example timing timing_expected.txt
 part "stack use" stack
 part "comparison" target/release/compare --seconds 5
 if [ $failed != 0 ]; then

@@ -10,10 +10,11 @@
 #include "romfs.h"
 #include "tfs.h"
 #include "tfs_trace.h"
+#include "timing.h"
 
 #define STACK (256 * 1024)
 #define PAINT 0xA5
-#define TFS_MOST (4 * 1024)    /* as tfs.h and tfs_trace.h say */
+#define TFS_MOST (4 * 1024)    /* as tfs.h, tfs_trace.h and timing.h say */
 #define ROMFS_MOST (16 * 1024) /* as romfs.h says */
 #define VOLUME (TFS_MAX_BLOCKS * TFS_BLOCK_SIZE)
 #define DEEPEST 8
@@ -23,6 +24,7 @@ static uint8_t file[] = "A", link_name[] = "link", other[] = "NEW";
 /* A record of each kind, the last a read of the whole file; their numbers have five groups where they may. */
 static uint8_t trace[TFS_MAX_FILE + 256], out[256];
 static size_t trace_length;
+static uint16_t values[TIMING_VALUES];
 static volatile uint32_t answer;
 
 /* ---- the volume and the image */
@@ -147,6 +149,15 @@ REQUEST(run_write_store, tfs_write_store(image, VOLUME, file, 1, 1, buffer, size
 REQUEST(run_mend, (image[TFS_BLOCK_SIZE + 508] = 0x80, tfs_mend(image, VOLUME)))
 REQUEST(run_record_read, tfs_trace_read(trace, trace_length, 0).entry)
 REQUEST(run_record_write, tfs_trace_write(out, sizeof out, largest, other, 3, buffer, 64))
+REQUEST(run_first_block, timing_store_block(image, VOLUME, 7, 1, values, 1, block, sizeof block))
+REQUEST(run_inode_block, timing_store_block(image, VOLUME, 7, 1, values, 2, block, sizeof block))
+REQUEST(run_map_block, timing_store_block(image, VOLUME, 7, 1, values, 3, block, sizeof block))
+REQUEST(run_directory_block, timing_store_block(image, VOLUME, 7, 1, values, 4, block, sizeof block))
+REQUEST(run_last_block, timing_store_block(image, VOLUME, 7, 1, values, 5, block, sizeof block))
+REQUEST(run_timing_store, timing_store(image, VOLUME, 7, 1, values))
+REQUEST(run_boot, timing_boot(image, VOLUME, 7, 1))
+REQUEST(run_open_lid_block, timing_open_lid_block(image, VOLUME, 1, block, sizeof block))
+REQUEST(run_open_lid, timing_open_lid(image, VOLUME))
 REQUEST(run_rom_check, romfs_check(rom, sizeof rom))
 REQUEST(run_rom_find, romfs_find(rom, sizeof rom, 32 * (DEEPEST - 1), link_name, 4))
 REQUEST(run_rom_entry, romfs_entry(rom, sizeof rom, 32 * (DEEPEST + 1)))
@@ -174,6 +185,17 @@ static const struct {
     {"TFS record read", run_record_read},
     {"TFS record written", run_record_write},
     {"TFS replay", run_replay},
+    {"timing block of store, file absent: zeros", run_first_block},
+    {"timing block of store, file absent: inode", run_inode_block},
+    {"timing block of store, file absent: map", run_map_block},
+    {"timing block of store, file absent: directory", run_directory_block},
+    {"timing block of store, file absent: content", run_last_block},
+    {"timing store, file absent", run_timing_store},
+    {"timing store, file stands", run_timing_store},
+    {"timing boot", run_boot},
+    {"timing block of store, file stands", run_first_block},
+    {"timing block of open lid", run_open_lid_block},
+    {"timing open lid", run_open_lid},
     {"romfs check", run_rom_check},
     {"romfs find", run_rom_find},
     {"romfs entry", run_rom_entry},
@@ -220,7 +242,7 @@ int main(void)
         size_t used = depth(requests[i].run) - idle;
 
         printf("| %s | %lu |\n", requests[i].name, (unsigned long)used);
-        failed |= used > (requests[i].name[0] == 'T' ? TFS_MOST : ROMFS_MOST) || answer != 0;
+        failed |= used > (requests[i].name[0] == 'r' ? ROMFS_MOST : TFS_MOST) || answer != 0;
     }
     return failed;
 }

@@ -1,6 +1,10 @@
-// Runs packed test cases through the TFS requests and compares refusal, place, values, name, and the hash of image and buffer
-// afterwards. One line for each case that differs, then the counts. The input is that of host/generate:
-// pack tfs crates/tfs_cases/stdin --seed 1 --cases 600
+// Runs packed test cases through the requests of TFS and of the timing file, and compares refusal, place, values, name, and the
+// hash of image and buffer afterwards. One line for each case that differs, then the counts. The input is that of host/generate:
+// pack tfs crates/tfs_cases/stdin --seed 1 --cases 700
+mod pump; // pump.rt: the requests on the timing file
+
+use crate::pump::is_timing;
+use crate::pump::timing_read;
 use packed::cases::Given;
 use packed::cases::Outcome;
 use packed::cases::done;
@@ -32,7 +36,7 @@ fn of_checked(c: CheckAnswer) -> Outcome {
     }
 }
 
-fn of_done(d: Done) -> Outcome {
+pub fn of_done(d: Done) -> Outcome {
     match d {
         Done::Granted => done(),
         Done::Refused(n) => refused(n, 0),
@@ -40,7 +44,7 @@ fn of_done(d: Done) -> Outcome {
     }
 }
 
-fn of_answer(a: Answer) -> Outcome {
+pub fn of_answer(a: Answer) -> Outcome {
     match a {
         Answer::Granted(value) => one(value),
         Answer::Refused(n) => refused(n, 0),
@@ -139,6 +143,9 @@ fn store_read(given: Given, name: &[u8], buf: &mut [u8], image: &[u8]) -> Outcom
 fn outcome(given: Given, name: &[u8], buf: &mut [u8], image: &mut [u8]) -> Outcome {
     if is_store(given.request) {
         return store_read(given, name, buf, image);
+    }
+    if is_timing(given.request) {
+        return timing_read(given.request, buf, image);
     }
     request(given, name, buf, image)
 }

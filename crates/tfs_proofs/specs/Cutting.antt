@@ -32,6 +32,7 @@ use Rattle.tfs_proofs.specs.Storing.{Stored, stored, create-stores, leng
 use Rattle.tfs_proofs.specs.SameButMap.{leaves}
 use Rattle.tfs_proofs.specs.Frame.{n-same}
 use Rattle.tfs_proofs.specs.Histories.{all-consistent}
+use Rattle.tfs_proofs.specs.Filled.{blank, filled}
 
 -- a consistent volume as it is
 itself : (B : ℕ) → BlockSize B → (img : List ℕ) → Consistent B img → Leaves B img img
@@ -341,6 +342,8 @@ after-append B (x ∷ xs) ys img = after-append B xs ys (operate B img x .image)
 pub cut-law : (B : ℕ) → BlockSize B → (img : List ℕ) → Consistent B img → CutLaws B img
 cut-law B sz img ok = record {
   leaves = λ xs c j. subst (Leaves B (cut B (afterAll B img xs) c j)) (sym (after-append B xs (reached B c j) img)) (cut-leaves B sz (afterAll B img xs) (all-consistent B sz xs img ok) c j);
+  blank = λ nm z k g. blank B sz img ok nm z g k;
+  filled = λ nm z bs g. filled B sz img ok nm z g bs;
   shorter = short;
   still = λ xs nm o bs j.
       check-means B sz (cut B (afterAll B img xs) (writes nm o bs) j) .1

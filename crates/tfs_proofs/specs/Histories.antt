@@ -15,7 +15,7 @@ use Rattle.tfs_spec.specs.Consistent.{Consistent}
 use Rattle.tfs_spec.specs.Requests.{Answer, refused, granted, refuse, format, create, remove, read, write, Change, creates, removes, writes, perform, changes, fetches, checks, reads, lists, counts, Operation, formats, mends, requests, operate, afterAll}
 use Rattle.tfs_spec.specs.Answers.{NameRule}
 use Rattle.tfs_spec.specs.Effects.{over, effectOf, nameOn, transferOn, readBy}
-use Rattle.tfs_spec.specs.Histories.{Never, CreatesName, created, EndsName, removed, formatted, effectOn, effectOnAll, putBy, putByAll, HistoryLaws}
+use Rattle.tfs_spec.specs.Histories.{Never, CreatesName, created, EndsName, removed, formatted, ChangesName, changed as changed-by, emptied, effectOn, effectOnAll, putBy, putByAll, HistoryLaws}
 use Rattle.tfs_facts.specs.CheckMeans.{check-means}
 use Rattle.tfs_facts.specs.Names.{name-refl, name-trans, slot-hit, slot-is}
 use Rattle.tfs_proofs.specs.Others.{stands-not}
@@ -89,6 +89,21 @@ module _ (B : ℕ) (sz : BlockSize B) (img : List ℕ) where
     any-stands (requests (lists s)) = refl
     any-stands (requests counts) = refl
 
+    -- what no change names stays
+    effect-other : (x : Operation) → (ChangesName B nm img x → ⊥) → effectOn B nm img x old ≡ old
+    effect-other (formats label) away =
+        by-test (granted (format B img label .answer)) (λ t. absurd (away (emptied label t))) (λ t. cond-no (granted (format B img label .answer)) none old t)
+    effect-other (requests (changes c)) away =
+        by-test (sameName nm (nameOn c) && granted (perform B img c .answer))
+        (λ t. absurd (away (changed-by c (and-l (sameName nm (nameOn c)) _ t) (and-r (sameName nm (nameOn c)) _ t))))
+        (λ t. cond-no (sameName nm (nameOn c) && granted (perform B img c .answer)) (effectOf c old) old t)
+    effect-other mends away = refl
+    effect-other (requests (fetches c k buf)) away = refl
+    effect-other (requests checks) away = refl
+    effect-other (requests (reads k o buf)) away = refl
+    effect-other (requests (lists s)) away = refl
+    effect-other (requests counts) away = refl
+
     -- where nothing stands, only a create makes something stand
     effect-none : (x : Operation) → (CreatesName B nm img x → ⊥) → effectOn B nm img x none ≡ none
     unfolding perform
@@ -153,6 +168,12 @@ module _ (B : ℕ) (sz : BlockSize B) where
   all-stands nm (x ∷ xs) img =
       all-stands nm xs (operate B img x .image) ∙ ap (effectOnAll B nm (operate B img x .image) xs) (any-stands B sz img nm x)
 
+  others-after : (nm : List ℕ) (xs : List Operation) (img : List ℕ) → Never B (ChangesName B nm) img xs → contents B (afterAll B img xs) nm ≡ contents B img nm
+  unfolding afterAll
+  others-after nm [] img away = refl
+  others-after nm (x ∷ xs) img away =
+      others-after nm xs (operate B img x .image) (away .1) ∙ any-stands B sz img nm x ∙ effect-other B sz img nm x (away .0)
+
   none-after : (nm : List ℕ) (xs : List Operation) (img : List ℕ) → contents B img nm ≡ none → Never B (CreatesName B nm) img xs → contents B (afterAll B img xs) nm ≡ none
   unfolding afterAll
   none-after nm [] img e away = e
@@ -208,6 +229,7 @@ history-law B sz img =
     record {
       consistent = λ ok xs. all-consistent B sz xs img ok;
       stands = λ xs nm. all-stands B sz nm xs img;
+      others = λ xs nm. others-after B sz nm xs img;
       reads = λ xs ok nm named o buf.
           (read-by B sz (afterAll B img xs) ok nm named o buf ∙ ap (λ (c : Option (List ℕ)). readBy B c (afterAll B img xs) o buf) (all-stands B sz nm xs img));
       ended = gone B sz img;

@@ -34,6 +34,7 @@ pub mod IgnoredSteps
 pub mod Leftovers
 pub mod Offsets
 pub mod Histories
+pub mod Filled
 pub mod Cutting
 pub mod Inodes
 pub mod FetchSame
@@ -43,6 +44,7 @@ pub mod TraceNumbers
 pub mod TraceRecords
 pub mod TraceLists
 pub mod Replayed
+pub mod Runs
 pub mod Lines
 pub mod Proved
 pub mod Numbers

@@ -73,6 +73,12 @@ module _ (B : ℕ) (pos : 0 < B) where
       let last : (k * B + (B - 1) + n - 1) / B ≡ (n + B - 2) / B + k = ap (λ (x : ℕ). x / B) same ∙ add-mul-div-right (n + B - 2) k pos in
       omega (arith, met-some B (k * B + (B - 1)) n h)
 
+  -- up to a block from the start of a file
+  pub met-first : (n : ℕ) → 1 ≤ n → n ≤ B → blocksMet B 0 n ≡ 1
+  met-first n h l =
+      let low : (0 + n - 1) / B < 1 = div-lt-iff-lt-mul {k = B} {x = 0 + n - 1} {y = 1} pos .1 (omega arith) in
+      omega (arith, met-some B 0 n h)
+
 -- ---- the blocks
 holds-means : (B : ℕ) (at : ℕ → ℕ) (o c b : ℕ) → T (holdsPart B at o c b) ↔ ((p : ℕ) × (o ≤ p) × (p < o + c) × (at p / B ≡ b))
 unfolding holdsPart

@@ -4,10 +4,10 @@ use Prim.Native.Nat.{ℕ, zero, suc, _+_, _-_, _*_, _/_, _≤_, _<_}
 use mathlib.Core.List.{List, []}
 use native.Mathlib.Omega.{arith}
 use native.Mathlib.Decide.{decLt}
-use native.Mathlib.Nat.{mul-le-mul-right, le-div-iff-mul-le, div-mul-le-self, suc-mul}
+use native.Mathlib.Nat.{mul-le-mul-right, le-div-iff-mul-le, div-lt-iff-lt-mul, div-mul-le-self, suc-mul}
 use lib.ListN.{length, List·getD-eq-default}
 use Rattle.lists.specs.Lists.{bytes4}
-use Rattle.tfs_spec.specs.Layout.{BlockSize, need, blocks}
+use Rattle.tfs_spec.specs.Layout.{BlockSize, maxSize, need, blocks}
 use Rattle.tfs_spec.specs.Consistent.{numberAt, Bytes}
 use Rattle.tfs_proofs.specs.Content.{need-enough}
 
@@ -33,6 +33,16 @@ module _ (B : ℕ) (sz : BlockSize B) where
   pub tight : (z : ℕ) → need B z * B < z + B
   unfolding need
   tight z = omega (arith, div-mul-le-self (z + (B - 1)) B, sz .large)
+
+  pub one : (z : ℕ) → 1 ≤ z → z ≤ B → (need B z ≡ 1) × (z ≤ maxSize B)
+  unfolding need
+  one z h k = (
+    (let low : 1 ≤ (z + (B - 1)) / B = (le-div-iff-mul-le pos) .1 (omega arith) in
+        let high : (z + (B - 1)) / B < 2 = (div-lt-iff-lt-mul {k = B} {x = z + (B - 1)} {y = 2} pos) .1 (omega arith) in
+        omega arith),
+    let many : 1 ≤ B / 4 - 1 = omega (arith, sz .large) in
+        omega (arith, mul-le-mul-right {m = 1} {n = B / 4 - 1} B many),
+  )
 
 bytes-of : (n : ℕ) → n < 4294967296 → Bytes (bytes4 n)
 bytes-of n h zero = omega arith

@@ -1,15 +1,16 @@
 -- The statements of tfs_spec, each proved under its own name.
 use Rattle.tfs_spec.specs.Laws.{Statements}
-use mathlib.Core.Path.{refl, sym, _∙_, subst}
+use mathlib.Core.Path.{refl, sym, ap, _∙_, subst}
 use native.Mathlib.Omega.{arith}
 use lib.Dec.{T}
-use Rattle.tfs_spec.specs.Layout.{labelAllowed, view}
+use Rattle.tfs_spec.specs.Layout.{labelAllowed, view, contents}
 use Rattle.tfs_spec.specs.Check.{check}
 use Rattle.tfs_spec.specs.Requests.{Answer, granted, format, checkAnswer, perform}
 use Rattle.tfs_spec.specs.Replays.{run}
 use Rattle.list_laws.specs.Ones.{ones-cut}
 use Rattle.tfs_facts.specs.CheckMeans.{check-means, check-breaks, same-means}
 use Rattle.tfs_facts.specs.MapOnes as counted
+use Rattle.tfs_facts.specs.Names.{name-refl}
 use Rattle.tfs_facts.specs.Sizes.{size-512}
 use Rattle.tfs_facts.specs.Total.{adds-up}
 use Rattle.tfs_facts.specs.Views.{view-n}
@@ -39,6 +40,7 @@ use Rattle.tfs_proofs.specs.TraceRecords.{read-string, read-record}
 use Rattle.tfs_proofs.specs.TraceLists as lists
 use Rattle.tfs_proofs.specs.TraceLists.{written-read, read-written, read-spoiled, positions, written, refused-33, written-all, numbers-fit}
 use Rattle.tfs_proofs.specs.Replayed.{agree, means, replay-stays, recorded-fits, again, any-buffer, joined}
+use Rattle.tfs_proofs.specs.Runs.{runs, unnamed-kept}
 use Rattle.tfs_proofs.specs.Lines as lines
 use Rattle.tfs_proofs.specs.WriteLists.{writes-law, pieces-law}
 use Rattle.tfs_proofs.specs.CreateRemove.{back-law}
@@ -49,12 +51,13 @@ unfolding checkAnswer perform
 statements =
     record {
       layout-laws = offsets.layout-laws;
-      name-laws = record { same = same-means };
+      name-laws = record { same = same-means; itself = name-refl; alike = λ a b t B img. ap (contents B img) (same-means a b .0 t) };
       number-laws = record {
         large = sizes.large;
         small = sizes.small;
         enough = sizes.enough;
         tight = sizes.tight;
+        one = sizes.one;
         base = size-512;
         volume = refl;
         directory = refl;
@@ -176,6 +179,8 @@ statements =
         again = again B sz img;
         recordable = λ ok small cs h. recorded-fits B sz small cs h img ok;
         any-buffer = any-buffer B img;
+        runs = runs B img;
+        others = unnamed-kept B sz img;
         joined = joined B sz img;
       };
       request-laws = λ B sz img ok. record {

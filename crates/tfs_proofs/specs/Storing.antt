@@ -283,6 +283,12 @@ pub not-missing : (k n len B : ℕ) → 1 ≤ k → k ≤ n → B ≤ len → T 
 not-missing k n len B l h r =
     not-T (eqb k 0 || (ltb n k || ltb len B)) (λ t. ⊎-elim (λ x. omega arith) (λ w. ⊎-elim (λ x. omega arith) (λ x. omega arith) w) (why-missing k n len B t))
 
+-- each is a whole block
+full-nth : (B len : ℕ) (xs : List Store) → Fits B len xs → (i : ℕ) → i < length xs → length (nth xs i .bytes) ≡ B
+full-nth B len [] f i h = absurd (omega arith)
+full-nth B len (x ∷ xs) f zero h = f .0
+full-nth B len (x ∷ xs) f (suc i) h = full-nth B len xs (f .1 .1) i (omega arith)
+
 -- ---- the statement
 module _ (B : ℕ) (sz : BlockSize B) (img : List ℕ) (ok : Consistent B img) (c : Change) (g : T (granted (perform B img c .answer))) where
   abbrev xs : List Store
@@ -315,6 +321,7 @@ module _ (B : ℕ) (sz : BlockSize B) (img : List ℕ) (ok : Consistent B img) (
     number = known .number;
     inside = λ k l h. known .inside (k - 1) (omega arith);
     once = λ i k l m h. apart-nth xs (known .apart) (i - 1) (k - 1) (omega arith) (omega arith);
+    full = λ k l h. full-nth B (length img) xs (known .fits) (k - 1) (omega arith);
     bytes = block-new;
     fetched = λ k buf l h r. fetch-some B img c g k buf (not-missing k (length xs) (length buf) B l h r);
     new = λ j k l m h. (ap (λ (x : List ℕ). block B x (kth k xs .at)) (cut-granted j) ∙ prefix-new B xs img j (k - 1) (known .fits) (known .apart) (omega arith) (omega arith) ∙ block-new k l h);

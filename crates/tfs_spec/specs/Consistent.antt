@@ -8,7 +8,7 @@ use lib.ListN.{length, getD}
 use lib.Dec.{T, eqb}
 use lib.Count.{ones}
 use Rattle.lists.specs.Lists.{count, word, bytes4, bitOf, part}
-use Rattle.tfs_spec.specs.Layout.{BlockSize, maxBlocks, slots, numbers, maxSize, need, blocks, block, volumeName, mapBit, sameName, view, free, used, inode, name, size, number, place, View, freeBlocks, onesBelow, wordsBelow, onesByWords}
+use Rattle.tfs_spec.specs.Layout.{BlockSize, maxBlocks, slots, numbers, maxSize, need, blocks, block, volumeName, mapBit, sameName, view, free, used, inode, name, size, number, place, contents, View, freeBlocks, onesBelow, wordsBelow, onesByWords}
 
 -- "All numbers are big-endian": the number in bytes p to p + 3
 abbrev pub numberAt : List ℕ → ℕ → ℕ
@@ -65,6 +65,9 @@ pub record LayoutLaws (B : ℕ) (img : List ℕ) : Type 0 where
 -- whether two names are the same is whether they are equal
 pub record NameLaws : Type 0 where
   pub same : (a b : List ℕ) → T (sameName a b) ↔ (a ≡ b)
+  -- a name is the same as itself, and under names that are the same the same stands
+  pub itself : (a : List ℕ) → T (sameName a a)
+  pub alike : (a b : List ℕ) → T (sameName a b) → (B : ℕ) (img : List ℕ) → contents B img a ≡ contents B img b
 
 -- ---- numbers
 pub record NumberLaws : Type 0 where
@@ -74,6 +77,8 @@ pub record NumberLaws : Type 0 where
   -- ⌈size/512⌉: enough blocks, and no block more
   pub enough : (B : ℕ) → BlockSize B → (z : ℕ) → z ≤ need B z * B
   pub tight : (B : ℕ) → BlockSize B → (z : ℕ) → need B z * B < z + B
+  -- a file of one byte up to a block's has one, and is not too large
+  pub one : (B : ℕ) → BlockSize B → (z : ℕ) → 1 ≤ z → z ≤ B → (need B z ≡ 1) × (z ≤ maxSize B)
   pub base : BlockSize 512
   -- "4096", "25 slots", "127 block numbers", "Largest file 65,024 bytes"
   pub volume : maxBlocks 512 ≡ 4096

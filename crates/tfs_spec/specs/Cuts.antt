@@ -6,10 +6,11 @@ use Prim.Native.Nat.{ℕ, _+_, _-_, _*_, _/_, _≤_, _<_}
 use mathlib.Core.List.{List, [], _∷_, _++_}
 use lib.ListN.{length, getD, take, drop}
 use lib.Dec.{T, ltb, eqb}
+use Rattle.lists.specs.Lists.{zeros}
 use Rattle.tfs_spec.specs.Layout.{need, blocks, block, mapBit, view, contents}
 use Rattle.tfs_spec.specs.Check.{consistent, broken, check}
 use Rattle.tfs_spec.specs.Consistent.{Consistent, Stray, OnlyStrays}
-use Rattle.tfs_spec.specs.Requests.{done, value, granted, storeAll, Change, creates, removes, writes, perform, storesOf, kth, fetch, cut, mend, changes, Operation, requests, afterAll}
+use Rattle.tfs_spec.specs.Requests.{done, value, granted, store, storeAll, create, Change, creates, removes, writes, perform, storesOf, kth, fetch, cut, mend, changes, Operation, requests, afterAll}
 use Rattle.tfs_spec.specs.Answers.{storeCount}
 
 -- names, sizes and contents are the same in two images
@@ -24,7 +25,8 @@ pub record StoreLaws (B : ℕ) (img : List ℕ) (c : Change) : Type 0 where
   pub number : length (storesOf B img c) ≡ storeCount B c (perform B img c .answer)
   pub inside : (k : ℕ) → 1 ≤ k → k ≤ length (storesOf B img c) → kth k (storesOf B img c) .at < blocks B img
   pub once : (i k : ℕ) → 1 ≤ i → i < k → k ≤ length (storesOf B img c) → kth i (storesOf B img c) .at ≢ kth k (storesOf B img c) .at
-  -- each the whole block as it is after the whole request, also where nothing in it changes
+  -- each a whole block, as it is after the whole request, also where nothing in it changes
+  pub full : (k : ℕ) → 1 ≤ k → k ≤ length (storesOf B img c) → length (kth k (storesOf B img c) .bytes) ≡ B
   pub bytes : (k : ℕ) → 1 ≤ k → k ≤ length (storesOf B img c) → kth k (storesOf B img c) .bytes ≡ block B (perform B img c .image) (kth k (storesOf B img c) .at)
   -- and each is what the caller fetches: "its block number, and its bytes into the start of a lent buffer. The image stays"
   pub fetched : (k : ℕ) (buf : List ℕ) → 1 ≤ k → k ≤ length (storesOf B img c) → B ≤ length buf → fetch B img c k buf ≡ record { answer = value (kth k (storesOf B img c) .at); image = img; buffer = kth k (storesOf B img c) .bytes ++ drop B buf }
@@ -71,6 +73,10 @@ reached B (writes nm o bs) j = requests (changes (writes nm o (take ((o / B + j)
 pub record CutLaws (B : ℕ) (img : List ℕ) : Type 0 where
   -- "a cut after any number of them": behind j stores of c, which comes after the requests xs; between two requests j is 0
   pub leaves : (xs : List Operation) (c : Change) (j : ℕ) → Leaves B (cut B (afterAll B img xs) c j) (afterAll B img (xs ++ reached B c j))
+  -- "all content blocks wholly zero": so a create stores them
+  pub blank : (nm : List ℕ) (z k : ℕ) → T (granted (create B img nm z .answer)) → 1 ≤ k → k ≤ need B z → kth k (storesOf B img (creates nm z)) .bytes ≡ zeros B
+  -- a write of up to a block into a file just created has one store: its bytes, and zeros behind them, to the block that the create stores first
+  pub filled : (nm : List ℕ) (z : ℕ) (bs : List ℕ) → T (granted (create B img nm z .answer)) → 1 ≤ length bs → length bs ≤ z → length bs ≤ B → storesOf B (create B img nm z .image) (writes nm 0 bs) ≡ store (kth 1 (storesOf B img (creates nm z)) .at) (bs ++ zeros (B - length bs)) ∷ []
   -- "for write .. the check still 0": a cut write is a shorter write
   pub shorter : (xs : List Operation) (nm : List ℕ) (o : ℕ) (bs : List ℕ) (j : ℕ) → cut B (afterAll B img xs) (writes nm o bs) j ≡ afterAll B img (xs ++ reached B (writes nm o bs) j)
   pub still : (xs : List Operation) (nm : List ℕ) (o : ℕ) (bs : List ℕ) (j : ℕ) → check B (cut B (afterAll B img xs) (writes nm o bs) j) ≡ consistent

@@ -9,7 +9,7 @@ use lib.Dec.{T}
 use Rattle.lists.specs.Lists.{zeros}
 use Rattle.tfs_spec.specs.Layout.{sameName, view, inode, size, contents}
 use Rattle.tfs_spec.specs.Consistent.{File, Consistent}
-use Rattle.tfs_spec.specs.Requests.{value, file, granted, refuse, format, create, remove, read, write, listAnswer, creates, removes, writes, perform, mend, changes, fetches, checks, reads, lists, counts, Operation, formats, mends, requests, operate, afterAll}
+use Rattle.tfs_spec.specs.Requests.{value, file, granted, refuse, format, create, remove, read, write, listAnswer, Change, creates, removes, writes, perform, mend, changes, fetches, checks, reads, lists, counts, Operation, formats, mends, requests, operate, afterAll}
 use Rattle.tfs_spec.specs.Answers.{NameRule, Stands, Vacant}
 use Rattle.tfs_spec.specs.Effects.{over, effectOf, nameOn, readBy, SameBytes}
 
@@ -26,6 +26,11 @@ pub data CreatesName (B : ℕ) (nm img : List ℕ) : Operation → Type 0 where
 pub data EndsName (B : ℕ) (nm img : List ℕ) : Operation → Type 0 where
   removed : (k : List ℕ) → T (sameName nm k) → T (granted (remove B img k .answer)) → EndsName B nm img (requests (changes (removes k)))
   formatted : (label : List ℕ) → T (granted (format B img label .answer)) → EndsName B nm img (formats label)
+
+-- a granted create, remove or write of nm, or a granted format
+pub data ChangesName (B : ℕ) (nm img : List ℕ) : Operation → Type 0 where
+  changed : (c : Change) → T (sameName nm (nameOn c)) → T (granted (perform B img c .answer)) → ChangesName B nm img (requests (changes c))
+  emptied : (label : List ℕ) → T (granted (format B img label .answer)) → ChangesName B nm img (formats label)
 
 -- what a request makes of what stands under nm
 abbrev pub effectOn : ℕ → List ℕ → List ℕ → Operation → Option (List ℕ) → Option (List ℕ)
@@ -66,6 +71,8 @@ pub record HistoryLaws (B : ℕ) (img : List ℕ) : Type 0 where
   pub consistent : Consistent B img → (xs : List Operation) → Consistent B (afterAll B img xs)
   -- what stands under a name is made by granted requests by that name and by granted formats; no other request changes it
   pub stands : (xs : List Operation) (nm : List ℕ) → contents B (afterAll B img xs) nm ≡ effectOnAll B nm img xs (contents B img nm)
+  -- so what stands under a name is left by all requests on other names, by refused ones and by all that have no name but format
+  pub others : (xs : List Operation) (nm : List ℕ) → Never B (ChangesName B nm) img xs → contents B (afterAll B img xs) nm ≡ contents B img nm
   -- so reads after them give what these made of it, and no byte of a file that does not stand under it then
   pub reads : (xs : List Operation) → Consistent B (afterAll B img xs) → (nm : List ℕ) → NameRule nm → (o : ℕ) (buf : List ℕ) → read B (afterAll B img xs) nm o buf ≡ readBy B (effectOnAll B nm img xs (contents B img nm)) (afterAll B img xs) o buf
   -- after a granted remove, or a granted format, every read and write of the name is refused 13, until a create of it is granted

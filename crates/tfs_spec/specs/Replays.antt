@@ -1,13 +1,14 @@
 -- Replay of a trace on a volume: its requests one after another, each with the answer that it gives against the one expected.
 use mathlib.Core.Path.{_≡_}
 use mathlib.Core.Logic.{_≢_, _↔_}
-use mathlib.Core.Bool.{Bool, cond, _&&_}
+use mathlib.Core.Bool.{Bool, false, cond, _&&_}
 use Prim.Native.Nat.{ℕ, zero, suc, _+_, _*_, _-_, _/_, _%_, _^_, _≤_, _<_}
 use mathlib.Core.List.{List, [], _∷_, _++_, map}
 use mathlib.Core.Option.{Option, none, some}
 use lib.ListN.{length, getD, take}
 use lib.Dec.{T, eqb, ltb, leb}
 use Rattle.lists.specs.Lists.{sameList, zeros}
+use Rattle.tfs_spec.specs.Layout.{sameName, contents}
 use Rattle.tfs_spec.specs.Check.{check}
 use Rattle.tfs_spec.specs.Consistent.{Bytes, Consistent, FirstBroken}
 use Rattle.tfs_spec.specs.Requests.{granted, refusalOf, countOf, Outcome, checked, creates, removes, writes, Request, changes, reads, counts, reply, requests, afterAll}
@@ -126,6 +127,36 @@ afterCalls B img cs = afterAll B img (map (λ c. requests (requestOf c)) cs)
 abbrev pub callsOf : List Record → List Call
 callsOf rs = map (λ r. r .call) rs
 
+-- whether a request names nm
+abbrev pub named : List ℕ → Call → Bool
+named nm (creating k z) = sameName nm k
+named nm (removing k) = sameName nm k
+named nm (reading k o len) = sameName nm k
+named nm (writing k o bs) = sameName nm k
+named nm counting = false
+
+-- the records of a trace, up to where it ends or is spoiled
+abbrev pub recordsOf : Trace → List Record
+recordsOf finished = []
+recordsOf spoiled = []
+recordsOf (holds r rest) = r ∷ recordsOf rest
+
+-- how many of them a replay has run: those before a malformed one; up to a differing one, itself among them
+abbrev pub ranCount : Replayed → ℕ
+ranCount (replayed n) = n
+ranCount (malformedAt k) = k - 1
+ranCount (differsAt k) = k
+ranCount (denied num p) = 0
+
+-- the requests that a replay runs
+unfoldable pub ran : ℕ → List ℕ → List ℕ → List Call
+ran B img t = take (ranCount (replay B img t .result)) (callsOf (recordsOf (readTrace t)))
+
+-- no record of a trace names nm
+abbrev pub Unnamed : List ℕ → List Record → Type 0
+Unnamed nm [] = Unit {0}
+Unnamed nm (r ∷ rs) = (T (named nm (r .call)) → ⊥) × Unnamed nm rs
+
 abbrev pub SmallCalls : List Call → Type 0
 SmallCalls [] = Unit {0}
 SmallCalls (c ∷ cs) = T (allBelow (callNumbers c)) × SmallCalls cs
@@ -170,6 +201,9 @@ pub record ReplayLaws (B : ℕ) (img : List ℕ) : Type 0 where
   pub recordable : Consistent B img → 8 * B * B ≤ 4294967296 → (cs : List Call) → SmallCalls cs → AllRecordable (recorded B img cs)
   -- what stands in a read's buffer before makes no difference
   pub any-buffer : (nm : List ℕ) (o : ℕ) (buf : List ℕ) (e : Expected) → agrees (reply B img (reads nm o buf)) e ≡ agrees (run B img (reading nm o (length buf))) e
+  -- replay leaves the image of the requests that it runs, and so what stands under every name that none of its records names
+  pub runs : (t : List ℕ) → replay B img t .image ≡ afterCalls B img (ran B img t)
+  pub others : (t nm : List ℕ) → Unnamed nm (recordsOf (readTrace t)) → contents B (replay B img t .image) nm ≡ contents B img nm
   -- two traces joined
   pub joined : (a b : List ℕ) → Bytes a → Bytes b → (rs : List Record) → readTrace a ≡ holdsAll rs finished → replay B img (a ++ b) ≡ goOn B (replay B img a .result) (replay B img a .image) b
 

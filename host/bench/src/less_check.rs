@@ -34,14 +34,15 @@ const PAGE: usize = 4096;
 /// Where in a page a volume begins, each another one: what a check takes depends on both by more than a count lasts.
 const PLACES: [usize; 8] = [0, 520, 1040, 1560, 2080, 2600, 3120, 3640];
 
-/// The times of all ways on volumes of 2 MiB, each made from another seed.
+/// The times of all ways on volumes of 2 MiB at most, each made from another seed.
 pub fn times(rounds: usize, ways: &mut [Way], make: impl Fn(u64) -> Vec<u8>) -> Vec<Times> {
     let mut space = vec![0; MOST_BLOCKS * BLOCK_SIZE + 2 * PAGE];
     let page = space.as_ptr().align_offset(PAGE);
     let mut all = Vec::new();
     for (seed, place) in (1..).zip(PLACES) {
-        let image = &mut space[page + place..][..MOST_BLOCKS * BLOCK_SIZE];
-        image.copy_from_slice(&make(seed));
+        let made = make(seed);
+        let image = &mut space[page + place..][..made.len()];
+        image.copy_from_slice(&made);
         assert_same_answers(ways, image);
         all.extend(timed(rounds.div_ceil(PLACES.len()), ways, image));
     }

@@ -5,8 +5,8 @@
 //! ```
 //!
 //! Each time is the best of R rounds (2000 unless given, fewer where one lasts long), in which the proved request, the
-//! reference and what else is timed beside them take turns; of free bytes, few bytes, stores and mends less the check it is the median.
-//! Nothing passes or fails by time.
+//! reference and what else is timed beside them take turns; of free bytes, few bytes, stores, mends and the timing file less the
+//! check it is the median. Nothing passes or fails by time.
 
 #![deny(unsafe_code)]
 
@@ -16,6 +16,7 @@ mod on_romfs;
 mod on_room;
 mod on_stores;
 mod on_tfs;
+mod on_timing;
 mod on_traces;
 mod on_transfers;
 mod race;
@@ -43,6 +44,7 @@ fn main() -> ExitCode {
     on_transfers::beside_before(rounds);
     on_stores::stores(rounds);
     on_stores::mends(rounds);
+    on_timing::requests(rounds);
     on_room::free_bytes(rounds);
     on_tfs::growth(rounds);
     on_traces::replays(rounds);

@@ -42,6 +42,11 @@ pub fn with_files_anywhere(blocks: usize, sizes: &[u32], seed: u64) -> Vec<u8> {
     image
 }
 
+/// A volume of 64 KiB with seven files.
+pub fn small() -> Vec<u8> {
+    with_files(128, &TYPICAL)
+}
+
 /// The volumes of 2 MiB for requests that move no content.
 pub fn plain() -> [(&'static str, Vec<u8>); 3] {
     let typical = [&TYPICAL[..], &[LARGEST_FILE]].concat();

@@ -1,10 +1,15 @@
-/// An answer as the C interface gives it: all its words, and the name of a listed file.
+use reference::timing::VALUES;
+
+/// An answer as the C interface gives it: all its words, the name of a listed file and the values of
+/// a boot.
 #[derive(Clone, Copy, Debug, Default, PartialEq, Eq)]
 pub struct Answer {
     /// The number of the refusal, the place, and what is granted.
     pub words: [u64; 13],
     /// The name padded with zeros.
     pub name: [u8; 16],
+    /// The values.
+    pub values: [u16; VALUES],
 }
 
 impl Answer {
@@ -18,6 +23,12 @@ impl Answer {
     /// Adds a name of at most 16 bytes.
     pub fn named(mut self, name: &[u8]) -> Self {
         self.name[..name.len()].copy_from_slice(name);
+        self
+    }
+
+    /// Adds values.
+    pub fn valued(mut self, values: [u16; VALUES]) -> Self {
+        self.values = values;
         self
     }
 

@@ -71,7 +71,7 @@ impl Comparison {
             arguments: arguments.clone(),
             image_length: pair.image().len(),
             answers: [answer; 2],
-            at: [None; 4],
+            at: [None; 5],
             broken: Some(broken),
         }))
     }

@@ -1,22 +1,36 @@
 //! Changes of volumes made store by store, and cut after every number of stores.
 
+use std::ops::Range;
+
 use generate::cuts::{Change, Series, Store};
 use generate::tfs::{any_volume, volume, Shape, Volume};
 use generate::Random;
 use reference::request::{Arguments, Request};
 use reference::tfs::BLOCK_SIZE;
+use reference::timing::Timing;
 use reference::Refusal;
 
 use crate::answer::Answer;
 use crate::comparison::{Asked, Comparison, Stop};
+use crate::drawn_timings;
 use crate::pair::Pair;
 
-/// Draws a volume and cuts a create, a remove and a write on it, as far as it has the room and the
-/// files for them.
+/// Draws a volume and cuts a create, a remove and a write on it, and two others for a store of the
+/// timing file and an opening, as far as they have the room and the files for them.
 pub(crate) fn on_next(comparison: &mut Comparison) -> Result<(), Stop> {
     let made = some_volume(&mut comparison.random);
-    for kind in 0..3 {
-        if let Some(change) = Change::draw(&mut comparison.random, &made, kind) {
+    changes(comparison, &made, 0..3)?;
+    for _ in 0..2 {
+        let made = drawn_timings::any_image(&mut comparison.random);
+        changes(comparison, &made, 3..5)?;
+    }
+    Ok(())
+}
+
+/// Cuts a change of each of these kinds.
+fn changes(comparison: &mut Comparison, made: &Volume, kinds: Range<usize>) -> Result<(), Stop> {
+    for kind in kinds {
+        if let Some(change) = Change::draw(&mut comparison.random, made, kind) {
             let series = fetched(comparison, change, &made.image)?;
             cut_everywhere(comparison, &series, kind)?;
         }
@@ -165,5 +179,28 @@ fn cut(comparison: &mut Comparison, series: &Series, count: usize) -> Result<(),
             false => Err("a second mend changes the volume"),
         }
     })?;
+    match series.change {
+        Change::Store(_) | Change::OpenLid => boot(&mut turn, series, count),
+        _ => Ok(()),
+    }
+}
+
+/// Boots a volume that was cut after so many stores and mended, with numbers from before and after.
+fn boot(turn: &mut Turn<'_>, series: &Series, count: usize) -> Result<(), Stop> {
+    for (board, maker) in series.boot_numbers() {
+        let timing = Timing {
+            board,
+            maker,
+            ..Timing::default()
+        };
+        let arguments = Arguments {
+            timing,
+            ..Arguments::default()
+        };
+        turn.ask(Request::TimingBoot, &arguments, |answer, _| {
+            let values = (answer.refusal() == 0).then_some(answer.values);
+            series.boots(count, (board, maker), values)
+        })?;
+    }
     Ok(())
 }

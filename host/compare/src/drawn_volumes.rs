@@ -82,10 +82,10 @@ pub(crate) fn damaged(random: &mut Random, made: &Volume) -> Vec<u8> {
     damaged.unwrap_or_else(|| scramble_volume(random, made))
 }
 
-/// A consistent volume on which a create, a remove or a write was cut.
+/// A consistent volume on which a create, a remove, a write or a store of the timing file was cut.
 fn cut(random: &mut Random, made: &Volume) -> Option<Vec<u8>> {
     check(&made.image).ok()?;
-    let kind = random.below(3);
+    let kind = random.below(4);
     let change = Change::draw(random, made, kind)?;
     let series = Series::of_reference(random, change, &made.image);
     let last = series.stores.len();

@@ -1,4 +1,5 @@
 use generate::Random;
+use reference::timing::VALUES;
 
 const MARGIN: usize = 64;
 
@@ -43,6 +44,30 @@ impl Lent {
     }
 }
 
+/// Values lent to a store, with noise around them that no request may change.
+#[derive(Clone, Debug, PartialEq, Eq)]
+pub struct LentValues([[u16; VALUES]; 3]);
+
+impl LentValues {
+    /// Puts values between noise.
+    pub fn new(random: &mut Random, values: &[u16; VALUES]) -> Self {
+        let mut noise = || std::array::from_fn(|_| random.word() as u16);
+        Self([noise(), *values, noise()])
+    }
+
+    /// Gives the values.
+    pub fn values(&self) -> &[u16; VALUES] {
+        &self.0[1]
+    }
+
+    /// Gives the first value that differs from another copy, counted from the start of the values.
+    pub fn differs_at(&self, other: &Self) -> Option<isize> {
+        let (ours, theirs) = (self.0.as_flattened(), other.0.as_flattened());
+        let first = ours.iter().zip(theirs).position(|(one, two)| one != two)?;
+        Some(first as isize - VALUES as isize)
+    }
+}
+
 /// What a request is lent.
 #[derive(Clone, Debug)]
 pub struct Lents {
@@ -54,4 +79,6 @@ pub struct Lents {
     pub buffer: Lent,
     /// The bytes to be written whose store is asked for.
     pub bytes: Lent,
+    /// The values of a store.
+    pub values: LentValues,
 }

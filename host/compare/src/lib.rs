@@ -2,8 +2,9 @@
 //!
 //! [`run()`] draws images and sequences of requests from a seed. Each request runs on both sides,
 //! each with its own copy of the image, the name and the buffer; then the answers, the copies and
-//! the bytes around them must be the same. Creates, removes and writes are also made store by store
-//! and cut after every number of stores; what both sides then give must keep the promises of cuts.
+//! the bytes around them must be the same. Creates, removes and writes, and stores and openings of the
+//! timing file, are also made store by store and cut after every number of stores; what both sides
+//! then give must keep the promises of cuts. Boots must keep what the requests before them promise.
 //!
 //! A module uses only modules of the layers below its own:
 //!
@@ -12,7 +13,7 @@
 //! run                          image after image, until a limit or a difference
 //! volumes   roms   traces      the sequence of requests on one image or trace
 //! cuts                         requests made store by store and cut, kept to their promises
-//! drawn_volumes   drawn_roms   drawn_traces   images, traces and arguments by chance
+//! drawn_volumes   drawn_timings   drawn_roms   drawn_traces   images, traces and arguments by chance
 //! comparison                   a request on both sides, counted
 //! pair   tally   sides         two programs with copies of an image; answers counted; the programs
 //! answer   lent                an answer in the form of C; bytes lent, with noise around them
@@ -25,6 +26,7 @@ mod answer;
 mod comparison;
 mod cuts;
 mod drawn_roms;
+mod drawn_timings;
 mod drawn_traces;
 mod drawn_volumes;
 mod lent;
@@ -38,7 +40,7 @@ mod traces;
 mod volumes;
 
 pub use answer::Answer;
-pub use lent::{Lent, Lents};
+pub use lent::{Lent, LentValues, Lents};
 pub use pair::{Difference, Pair, Side};
 pub use run::{run, Found, Limits};
 pub use tally::Tally;

@@ -1,11 +1,12 @@
 use std::fmt;
 
 use generate::cases::stored;
+use generate::timing::is_on_file;
 use generate::Random;
 use reference::request::{Arguments, Request};
 
 use crate::answer::Answer;
-use crate::lent::{Lent, Lents};
+use crate::lent::{Lent, LentValues, Lents};
 
 /// A program that answers requests.
 pub type Side = fn(Request, &Arguments, &mut Lents) -> Answer;
@@ -25,6 +26,7 @@ impl Pair {
             name: Lent::new(random, b""),
             buffer: Lent::new(random, b""),
             bytes: Lent::new(random, b""),
+            values: LentValues::new(random, &Default::default()),
         };
         let lents = [lents.clone(), lents];
         Self { sides, lents }
@@ -50,11 +52,13 @@ impl Pair {
         let name = Lent::new(random, &arguments.name);
         let buffer = Lent::new(random, &arguments.buffer);
         let bytes = Lent::new(random, &arguments.bytes);
+        let values = LentValues::new(random, &arguments.timing.values);
         let answers = [0, 1].map(|side| {
             let lents = &mut self.lents[side];
             lents.name = name.clone();
             lents.buffer = buffer.clone();
             lents.bytes = bytes.clone();
+            lents.values = values.clone();
             self.sides[side](request, arguments, lents)
         });
         let [ours, theirs] = &self.lents;
@@ -63,8 +67,9 @@ impl Pair {
             ours.name.differs_at(&theirs.name),
             ours.buffer.differs_at(&theirs.buffer),
             ours.bytes.differs_at(&theirs.bytes),
+            ours.values.differs_at(&theirs.values),
         ];
-        if answers[0] == answers[1] && at == [None; 4] {
+        if answers[0] == answers[1] && at == [None; 5] {
             return Ok(answers[0]);
         }
         Err(Box::new(Difference {
@@ -89,10 +94,29 @@ pub struct Difference {
     pub image_length: usize,
     /// The answer of each side.
     pub answers: [Answer; 2],
-    /// The first byte that differs in image, name, buffer and bytes.
-    pub at: [Option<isize>; 4],
+    /// The first byte that differs in image, name, buffer and bytes, and the first value.
+    pub at: [Option<isize>; 5],
     /// The promise that both break.
     pub broken: Option<&'static str>,
+}
+
+impl Difference {
+    /// Tells the answers, and where what was lent differs.
+    fn differing(&self, f: &mut fmt::Formatter<'_>) -> fmt::Result {
+        for (side, answer) in ["proved", "reference"].iter().zip(&self.answers) {
+            writeln!(f, "  {side}: {:?}, name {:?}", answer.words, answer.name)?;
+            if self.request == Request::TimingBoot {
+                writeln!(f, "    values {:?}", answer.values)?;
+            }
+        }
+        let lent = ["image", "name", "buffer", "bytes", "values"];
+        for (what, at) in lent.iter().zip(self.at) {
+            if let Some(at) = at {
+                writeln!(f, "  first difference in the {what}: at {at}")?;
+            }
+        }
+        Ok(())
+    }
 }
 
 impl fmt::Display for Difference {
@@ -104,6 +128,7 @@ impl fmt::Display for Difference {
             k,
             bytes,
             entry,
+            timing,
         } = &self.arguments;
         writeln!(
             f,
@@ -121,17 +146,13 @@ impl fmt::Display for Difference {
         if stored(self.request).is_some() {
             writeln!(f, "  k {k}, {} bytes to be written", bytes.len())?;
         }
-        for (side, answer) in ["proved", "reference"].iter().zip(&self.answers) {
-            writeln!(f, "  {side}: {:?}, name {:?}", answer.words, answer.name)?;
+        if is_on_file(self.request) {
+            writeln!(f, "  k {k}, {timing:?}")?;
         }
-        for (what, at) in ["image", "name", "buffer", "bytes"].iter().zip(self.at) {
-            if let Some(at) = at {
-                writeln!(f, "  the {what} differs first at byte {at}")?;
-            }
-        }
+        self.differing(f)?;
         match self.broken {
             None => Ok(()),
-            Some(broken) => writeln!(f, "  against the promise of cuts: {broken}"),
+            Some(broken) => writeln!(f, "  against a promise: {broken}"),
         }
     }
 }

@@ -2,6 +2,7 @@
 
 use proved::c;
 use reference::request::{self, Arguments, Granted, Request};
+use reference::timing::{self, Timing};
 use reference::trace::Entry;
 use reference::{romfs, Refusal};
 
@@ -43,6 +44,25 @@ pub fn proved(request: Request, arguments: &Arguments, lents: &mut Lents) -> Ans
         Request::RomFind => rom_answer(c::romfs::find(image, number, name)),
         Request::RomEntry => entry_answer(c::romfs::entry(image, number)),
         Request::RomLength | Request::RomContent => part_answer(c::romfs::content(image, number)),
+        _ => on_timing_file(request, arguments, lents),
+    }
+}
+
+/// The same for the timing file.
+fn on_timing_file(request: Request, arguments: &Arguments, lents: &mut Lents) -> Answer {
+    let Timing { board, maker, .. } = arguments.timing;
+    let k = arguments.k;
+    let image = lents.image.bytes_mut();
+    let buffer = lents.buffer.bytes_mut();
+    let values = lents.values.values();
+    match request {
+        Request::TimingStore => timing_answer(c::timing::store(image, board, maker, values)),
+        Request::TimingOpenLid => timing_answer(c::timing::open_lid(image)),
+        Request::TimingBoot => boot_answer(c::timing::boot(image, board, maker)),
+        Request::TimingStoreBlock => timing_answer(c::timing::store_block(
+            image, board, maker, values, k, buffer,
+        )),
+        _ => timing_answer(c::timing::open_lid_block(image, k, buffer)),
     }
 }
 
@@ -126,11 +146,22 @@ fn part_answer(part: c::romfs::Part) -> Answer {
     Answer::of(&words.map(u64::from))
 }
 
+fn timing_answer(answer: c::timing::Answer) -> Answer {
+    let words = [answer.refusal, answer.place, answer.value];
+    Answer::of(&words.map(u64::from))
+}
+
+fn boot_answer(booted: c::timing::Booted) -> Answer {
+    let words = [booted.refusal, booted.place];
+    Answer::of(&words.map(u64::from)).valued(booted.values)
+}
+
 /// Answers with the reference, in the form that the C interface owes.
 pub fn reference(request: Request, arguments: &Arguments, lents: &mut Lents) -> Answer {
     let image = lents.image.bytes_mut();
     let answer = match request {
         Request::RomLength | Request::RomContent => content(image, arguments.number),
+        Request::TimingBoot => return booted(image, &arguments.timing),
         _ => request::run(request, arguments, image, lents.buffer.bytes_mut()).map(granted),
     };
     answer.unwrap_or_else(|Refusal { number, place }| {
@@ -150,6 +181,13 @@ fn granted((values, name): Granted) -> Answer {
         words.push(name.len() as u64);
     }
     Answer::of(&words).named(&name)
+}
+
+/// A refused boot has values too.
+fn booted(image: &[u8], given: &Timing) -> Answer {
+    let booted = timing::boot(image, given.board, given.maker);
+    let Refusal { number, place } = booted.answer.err().unwrap_or(Refusal::plain(0));
+    Answer::of(&[number.into(), place.into()]).valued(booted.values)
 }
 
 /// The offset is that of the part itself, so that the same bytes are meant and not equal ones.

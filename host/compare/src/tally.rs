@@ -4,7 +4,7 @@ use reference::request::Request;
 
 use crate::answer::Answer;
 
-const REQUESTS: [(Request, &str); 19] = [
+const REQUESTS: [(Request, &str); 24] = [
     (Request::TfsFormat, "format"),
     (Request::TfsCheck, "check"),
     (Request::TfsCreate, "create"),
@@ -24,10 +24,15 @@ const REQUESTS: [(Request, &str); 19] = [
     (Request::RomFind, "find"),
     (Request::RomEntry, "entry"),
     (Request::RomContent, "content"),
+    (Request::TimingStore, "timing store"),
+    (Request::TimingOpenLid, "opening"),
+    (Request::TimingBoot, "boot"),
+    (Request::TimingStoreBlock, "block of timing store"),
+    (Request::TimingOpenLidBlock, "block of opening"),
 ];
 
 /// One more than the greatest number of a refusal.
-const REFUSALS: usize = 34;
+const REFUSALS: usize = 38;
 
 /// How often each request was granted, and given each refusal.
 #[derive(Clone, Debug, PartialEq, Eq)]
@@ -38,8 +43,8 @@ pub struct Tally {
     ended: [u64; 3],
     /// How often a record of each kind was read; 0 is malformed.
     read: [u64; 6],
-    /// How often a create, a remove and a write were cut.
-    cuts: [u64; 3],
+    /// How often a create, a remove, a write, a timing store and an opening were cut.
+    cuts: [u64; 5],
 }
 
 impl Default for Tally {
@@ -48,7 +53,7 @@ impl Default for Tally {
             answers: [[0; REFUSALS]; 32],
             ended: [0; 3],
             read: [0; 6],
-            cuts: [0; 3],
+            cuts: [0; 5],
         }
     }
 }
@@ -65,12 +70,13 @@ impl Tally {
         self.answers[request as usize][answer.refusal() as usize] += 1;
     }
 
-    /// Counts a cut of a create (0), a remove (1) or a write (2).
+    /// Counts a cut of a create (0), a remove (1), a write (2), a timing store (3) or an opening (4).
     pub fn cut(&mut self, kind: usize) {
         self.cuts[kind] += 1;
     }
 
-    /// Gives how often a create (0), a remove (1) or a write (2) was cut.
+    /// Gives how often a create (0), a remove (1), a write (2), a timing store (3) or an opening (4)
+    /// was cut.
     pub fn cuts(&self, kind: usize) -> u64 {
         self.cuts[kind]
     }
@@ -121,7 +127,7 @@ impl fmt::Display for Tally {
             write!(f, " {name} {granted}+{}", all - granted)?;
         }
         write!(f, "; refusals:")?;
-        for number in (1..=15).chain(21..=33) {
+        for number in (1..=15).chain(21..=37) {
             write!(f, " {number}:{}", self.seen(number))?;
         }
         let [all, malformed, differs] = self.ended;
@@ -130,11 +136,12 @@ impl fmt::Display for Tally {
             "; replayed: all {all}, malformed {malformed}, differs {differs}"
         )?;
         write!(f, "; records read malformed: {}", self.read[0])?;
-        let [create, remove, write] = self.cuts;
+        let [create, remove, write, store, opening] = self.cuts;
         write!(
             f,
-            "; cuts: {} (create {create}, remove {remove}, write {write})",
-            create + remove + write
+            "; cuts: {} (create {create}, remove {remove}, write {write}, timing store {store}, \
+             opening {opening})",
+            self.cuts.iter().sum::<u64>()
         )
     }
 }

@@ -245,7 +245,7 @@ fn differs(case: &Case, blocks: Blocks) -> bool {
 
 #[test]
 fn stored_cases_tell_wrong_numbers_of_blocks() {
-    let cases = tfs_cases(1, 600, false);
+    let cases = tfs_cases(1, 700, false);
     for request in TRANSFERS {
         let granted = |case: &&Case| (case.request, case.answer.number) == (request, 0);
         let granted: Vec<&Case> = cases.iter().filter(granted).collect();

@@ -6,9 +6,11 @@ use compare::sides::{proved, reference};
 use compare::{options, run, Answer, Lents, Limits};
 use generate::cuts::{Change, Series, Store};
 use generate::tfs::{any_volume, volume, Shape, Volume};
+use generate::timing::{timing_volume, values_for};
 use generate::Random;
 use proved::Refusal;
 use reference::request::{Arguments, Request};
+use reference::timing::Timing;
 use sought::compared;
 
 /// The k-th store of a change, into a buffer.
@@ -19,6 +21,15 @@ fn store(change: &Change, image: &[u8], k: usize, buffer: &mut [u8]) -> Result<u
         Change::Write(name, offset, bytes) => {
             proved::tfs::write_store(image, name, *offset, bytes, k, buffer)
         }
+        Change::Store(timing) => {
+            let Timing {
+                board,
+                maker,
+                values,
+            } = timing;
+            proved::timing::store_block(image, *board, *maker, values, k, buffer)
+        }
+        Change::OpenLid => proved::timing::open_lid_block(image, k, buffer),
     }
 }
 
@@ -30,6 +41,15 @@ fn make(change: &Change, image: &mut [u8]) -> Result<(), Refusal> {
         Change::Write(name, offset, bytes) => {
             proved::tfs::write(image, name, *offset, bytes).map(drop)
         }
+        Change::Store(timing) => {
+            let Timing {
+                board,
+                maker,
+                values,
+            } = timing;
+            proved::timing::store(image, *board, *maker, values)
+        }
+        Change::OpenLid => proved::timing::open_lid(image),
     }
 }
 
@@ -74,8 +94,25 @@ fn cut_everywhere(series: &Series) -> usize {
         let once = mended.clone();
         assert_eq!(proved::tfs::mend(&mut mended), Ok(()));
         assert!(mended == once);
+        boot(series, count, &mended);
     }
     series.stores.len() + 1
+}
+
+/// Boots a volume that was cut after so many stores and mended.
+fn boot(series: &Series, count: usize, mended: &[u8]) {
+    for (board, maker) in series.boot_numbers() {
+        let booted = proved::timing::boot(mended, board, maker);
+        let values = booted.answer.is_ok().then_some(booted.values);
+        let numbers = (board, maker);
+        match series.change {
+            Change::Store(_) | Change::OpenLid => {
+                let kept = series.boots(count, numbers, values);
+                assert_eq!(kept, Ok(()));
+            }
+            _ => assert_eq!(values, values_for(mended, board, maker)),
+        }
+    }
 }
 
 fn some_volume(random: &mut Random) -> Volume {
@@ -89,10 +126,13 @@ fn some_volume(random: &mut Random) -> Volume {
 #[test]
 fn every_cut_keeps_what_is_promised() {
     let mut random = Random::new(71);
-    let mut cuts = [0; 3];
-    for round in 0..3_000 {
-        let kind = round % 3;
-        let made = some_volume(&mut random);
+    let mut cuts = [0; 5];
+    for round in 0..7_000 {
+        let kind = round % 5;
+        let made = match kind {
+            0..=2 => some_volume(&mut random),
+            _ => timing_volume(&mut random, 140),
+        };
         if let Some(change) = Change::draw(&mut random, &made, kind) {
             cuts[kind] += cut_everywhere(&series(change, &made.image));
         }
@@ -103,7 +143,7 @@ fn every_cut_keeps_what_is_promised() {
 #[test]
 fn large_volumes_are_cut_too() {
     let mut random = Random::new(72);
-    for kind in [0, 0, 1, 1, 2, 2] {
+    for kind in [0, 0, 1, 1, 2, 2, 3, 3] {
         let made = volume(&mut random, Shape::Scattered, 4_096);
         let change = Change::draw(&mut random, &made, kind).expect("a change");
         cut_everywhere(&series(change, &made.image));
@@ -112,10 +152,10 @@ fn large_volumes_are_cut_too() {
 
 #[test]
 fn the_comparison_counts_its_cuts() {
-    let (tally, found) = compared("--seed 5 --cases 20000 --only tfs", proved);
+    let (tally, found) = compared("--seed 5 --cases 30000 --only tfs", proved);
     assert!(found.is_none(), "{found:?}");
-    assert!((0..3).all(|kind| tally.cuts(kind) > 100));
-    let all: u64 = (0..3).map(|kind| tally.cuts(kind)).sum();
+    assert!((0..5).all(|kind| tally.cuts(kind) > 100));
+    let all: u64 = (0..5).map(|kind| tally.cuts(kind)).sum();
     assert!(tally.to_string().contains(&format!("; cuts: {all} (")));
 }
 
@@ -142,7 +182,7 @@ fn a_broken_promise_is_told_where_both_sides_agree() {
     let found = sought("--cases 40000").expect("a broken promise");
     assert!(found.difference.broken.is_some());
     let told = found.difference.to_string();
-    assert!(told.contains("against the promise of cuts"));
+    assert!(told.contains("against a promise: "));
     let within = |requests| sought(&format!("--image {} --cases {requests}", found.image));
     assert!(within(found.request).is_some() && within(found.request - 1).is_none());
 }

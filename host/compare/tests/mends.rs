@@ -8,7 +8,7 @@ use compare::{Answer, Lents, Side};
 use generate::cuts::Standing;
 use reference::request::{Arguments, Request};
 use sought::found_in;
-use told::tell;
+use told::tell_all;
 
 const MEND: Request = Request::TfsMend;
 
@@ -185,7 +185,5 @@ fn wrong_mends_are_found() {
 
 #[test]
 fn stored_cases_tell_wrong_mends() {
-    for (what, side) in WRONG {
-        assert!(tell(side), "{what}");
-    }
+    tell_all(&WRONG);
 }

@@ -201,7 +201,7 @@ fn differs(case: &Case, count: Count) -> bool {
 
 #[test]
 fn stored_cases_tell_wrong_counts() {
-    let cases = tfs_cases(1, 600, false);
+    let cases = tfs_cases(1, 700, false);
     for request in [Request::TfsFree, Request::TfsCreate] {
         let counts =
             |case: &&Case| case.request == request && [0, 12].contains(&case.answer.number);

@@ -8,7 +8,7 @@ use reference::request::{Arguments, Request};
 use sought::{compared, found};
 
 /// The refusals that each request can give.
-const REFUSALS: [(Request, &[u32]); 19] = [
+const REFUSALS: [(Request, &[u32]); 24] = [
     (Request::TfsFormat, &[1, 8]),
     (Request::TfsCheck, &[1, 2, 3, 4, 5, 6, 7]),
     (Request::TfsCreate, &[1, 2, 3, 4, 5, 6, 7, 8, 9, 10, 11, 12]),
@@ -40,6 +40,20 @@ const REFUSALS: [(Request, &[u32]); 19] = [
         Request::RomContent,
         &[21, 22, 23, 24, 25, 26, 27, 28, 29, 31],
     ),
+    (Request::TimingStore, &[1, 2, 3, 4, 5, 6, 7, 11, 12, 34, 35]),
+    (Request::TimingOpenLid, &[1, 2, 3, 4, 5, 6, 7, 13, 35]),
+    (
+        Request::TimingBoot,
+        &[1, 2, 3, 4, 5, 6, 7, 13, 34, 35, 36, 37],
+    ),
+    (
+        Request::TimingStoreBlock,
+        &[1, 2, 3, 4, 5, 6, 7, 11, 12, 32, 34, 35],
+    ),
+    (
+        Request::TimingOpenLidBlock,
+        &[1, 2, 3, 4, 5, 6, 7, 13, 32, 35],
+    ),
 ];
 
 #[test]
@@ -49,14 +63,14 @@ fn both_agree_and_every_answer_is_met() {
     assert_eq!(tally.requests(), 40_000);
     for (request, refusals) in REFUSALS {
         assert!(tally.granted(request) > 100, "{request:?}");
-        let met: Vec<u32> = (1..34)
+        let met: Vec<u32> = (1..38)
             .filter(|number| tally.refused(request, *number) > 0)
             .collect();
         assert_eq!(met, refusals, "{request:?}");
     }
     assert!((0..3).all(|outcome| tally.ended(outcome) > 100));
     assert!((0..6).all(|kind| tally.read(kind) > 20));
-    assert!((0..3).all(|kind| tally.cuts(kind) > 100));
+    assert!((0..5).all(|kind| tally.cuts(kind) > 100));
 }
 
 #[test]

@@ -3,12 +3,12 @@
 mod sought;
 mod told;
 
-use compare::sides::reference;
+use compare::sides::{proved, reference};
 use compare::{Answer, Lents, Side};
 use generate::cases::stored;
 use reference::request::{Arguments, Request};
 use sought::{compared, found_in};
-use told::tell;
+use told::{tell, tell_all};
 
 const CREATE: Request = Request::TfsCreateStore;
 const REMOVE: Request = Request::TfsRemoveStore;
@@ -115,12 +115,17 @@ fn k_from_0(request: Request, arguments: &Arguments, lents: &mut Lents) -> Answe
 }
 
 fn k_of_32_bits(request: Request, arguments: &Arguments, lents: &mut Lents) -> Answer {
-    let k = arguments.k as u32 as usize;
-    with_k(request, arguments, lents, k)
+    match is_store(request) {
+        true => with_k(request, arguments, lents, arguments.k as u32 as usize),
+        false => reference(request, arguments, lents),
+    }
 }
 
 fn k_0_is_the_first(request: Request, arguments: &Arguments, lents: &mut Lents) -> Answer {
-    with_k(request, arguments, lents, arguments.k.max(1))
+    match is_store(request) {
+        true => with_k(request, arguments, lents, arguments.k.max(1)),
+        false => reference(request, arguments, lents),
+    }
 }
 
 /// The last store again for the k behind it.
@@ -303,10 +308,9 @@ fn blocks_told_with_a_store() {
 
 #[test]
 fn stored_cases_tell_wrong_stores() {
-    for (what, side) in WRONG {
-        assert!(tell(side), "{what}");
-    }
+    tell_all(&WRONG);
     assert!(!tell(reference));
+    assert!(!tell(proved));
 }
 
 /// With the right order the program that gives wrong ones is not found.

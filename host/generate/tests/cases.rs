@@ -18,7 +18,7 @@ fn numbers(cases: &[Case]) -> HashSet<(Request, u32)> {
 
 #[test]
 fn cases_meet_every_answer_and_stay_small() {
-    let cases = tfs_cases(1, 600, false);
+    let cases = tfs_cases(1, 700, false);
     let met = numbers(&cases);
     for number in 0..=7 {
         assert!(met.contains(&(Request::TfsCheck, number)), "{number}");
@@ -81,7 +81,7 @@ fn transfers(cases: &[Case]) -> HashSet<(Request, u32, bool, bool)> {
 
 #[test]
 fn replays_end_in_every_way() {
-    let cases = tfs_cases(1, 600, false);
+    let cases = tfs_cases(1, 700, false);
     let replays = cases
         .iter()
         .filter(|case| case.request == Request::TfsReplay);
@@ -94,7 +94,7 @@ fn replays_end_in_every_way() {
 
 #[test]
 fn a_name_is_refused_before_an_offset() {
-    let met = transfers(&tfs_cases(1, 600, false));
+    let met = transfers(&tfs_cases(1, 700, false));
     for request in [Request::TfsRead, Request::TfsWrite] {
         for (past, empty) in [(false, false), (false, true), (true, false), (true, true)] {
             for number in [8, 13, if past { 15 } else { 0 }] {
@@ -107,7 +107,7 @@ fn a_name_is_refused_before_an_offset() {
 
 #[test]
 fn a_good_part_of_the_images_has_leftovers() {
-    let cases = tfs_cases(1, 600, false);
+    let cases = tfs_cases(1, 700, false);
     let sound = |case: &&Case| tfs::check(&case.image).is_ok();
     let (mut used, mut free) = (0, 0);
     for case in cases.iter().filter(sound) {
@@ -121,7 +121,7 @@ fn a_good_part_of_the_images_has_leftovers() {
 
 #[test]
 fn room_is_counted_wherever_the_end_cuts_a_word() {
-    let cases = tfs_cases(1, 600, false);
+    let cases = tfs_cases(1, 700, false);
     for (request, number) in [
         (Request::TfsFree, 0),
         (Request::TfsCreate, 0),
@@ -140,7 +140,7 @@ fn room_is_counted_wherever_the_end_cuts_a_word() {
 
 #[test]
 fn cases_meet_every_way_to_break_a_slot() {
-    let cases = tfs_cases(1, 600, false);
+    let cases = tfs_cases(1, 700, false);
     let refused = cases.iter().filter(|case| case.answer.number == 4);
     let met = refused.map(|case| ways::way(&case.image, case.answer.place));
     let met: HashSet<_> = met.collect();
@@ -167,7 +167,7 @@ fn place(case: &Case) -> Option<(Request, usize, usize)> {
 
 #[test]
 fn stores_are_asked_for_by_every_kind_of_number() {
-    let cases = tfs_cases(1, 600, false);
+    let cases = tfs_cases(1, 700, false);
     let with_room = |case: &&Case| case.arguments.buffer.len() >= BLOCK_SIZE;
     let places: Vec<_> = cases.iter().filter(with_room).filter_map(place).collect();
     for wanted in [
@@ -191,7 +191,7 @@ fn stores_are_asked_for_by_every_kind_of_number() {
 
 #[test]
 fn mends_clear_bits_or_none() {
-    let cases = tfs_cases(1, 600, false);
+    let cases = tfs_cases(1, 700, false);
     let mends = cases.iter().filter(|case| case.request == Request::TfsMend);
     let told = |case: &Case| {
         (

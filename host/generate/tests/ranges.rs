@@ -150,7 +150,7 @@ fn assert_drawn(cases: &[Case], least: usize) {
 #[test]
 fn stored_cases_have_every_kind_of_range() {
     for seed in 1..=5 {
-        assert_drawn(&tfs_cases(seed, 600, false), 1);
+        assert_drawn(&tfs_cases(seed, 700, false), 1);
     }
 }
 

@@ -1,5 +1,5 @@
 //! The proved requests, called through their C interface (`include/tfs.h`, `include/tfs_trace.h`,
-//! `include/romfs.h`).
+//! `include/timing.h`, `include/romfs.h`).
 //!
 //! Rust's borrows give what the headers ask of a caller: valid pointers, and no overlap.
 
@@ -8,6 +8,7 @@
 pub mod c;
 pub mod romfs;
 pub mod tfs;
+pub mod timing;
 pub mod trace;
 
 /// A refused request: the number of the refusal and its place.

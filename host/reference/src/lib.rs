@@ -1,7 +1,8 @@
 //! A second implementation of the TFS and romfs rules, written from the rules alone.
 //!
-//! [`tfs`] and [`romfs`] answer requests on images in memory, [`trace`] reads, writes and replays
-//! traces of requests; [`request`] has all of them in one form.
+//! [`tfs`] and [`romfs`] answer requests on images in memory, [`timing`] those on a volume's timing
+//! file, [`trace`] reads, writes and replays traces of requests; [`request`] has all of them in one
+//! form.
 
 #![forbid(unsafe_code)]
 #![warn(missing_docs)]
@@ -10,6 +11,7 @@ mod refusal;
 pub mod request;
 pub mod romfs;
 pub mod tfs;
+pub mod timing;
 pub mod trace;
 
 pub use refusal::Refusal;

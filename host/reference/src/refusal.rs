@@ -4,7 +4,8 @@ use std::fmt;
 /// The reason why a request was not granted, as a number of the rules' tables and a place.
 #[derive(Clone, Copy, Debug, PartialEq, Eq, Hash)]
 pub struct Refusal {
-    /// The number of the broken rule, 1 to 15 and 32 for TFS, 21 to 31 for romfs and 33 for traces.
+    /// The number of the broken rule, 1 to 15 and 32 for TFS, 21 to 31 for romfs, 33 for traces and
+    /// 34 to 37 for the timing file.
     pub number: u32,
     /// The slot, block or header at fault, and 0 where the rule names none.
     pub place: u32,

@@ -2,6 +2,7 @@
 
 use crate::romfs;
 use crate::tfs::{self, Listing, Transferred};
+use crate::timing::{self, Timing};
 use crate::trace::{self, Draft, Entry, Replayed};
 use crate::Refusal;
 
@@ -48,9 +49,20 @@ pub enum Request {
     RomLength = 20,
     /// Content of a header.
     RomContent = 21,
+    /// Store of numbers and values in the timing file.
+    TimingStore = 22,
+    /// Opening of the lid.
+    TimingOpenLid = 23,
+    /// Boot with a board and a maker number.
+    TimingBoot = 24,
+    /// The k-th store of a store of numbers and values, into a buffer.
+    TimingStoreBlock = 25,
+    /// The k-th store of an opening, into a buffer.
+    TimingOpenLidBlock = 26,
 }
 
-/// The requests on a TFS volume that check it first, but for replay, which makes such requests.
+/// The requests on a TFS volume that check it first, but for replay and those on the timing file,
+/// which make such requests.
 pub const CHECKING: [Request; 10] = [
     Request::TfsCheck,
     Request::TfsCreate,
@@ -79,6 +91,8 @@ pub struct Arguments {
     pub bytes: Vec<u8>,
     /// The numbers of a record that is to be written.
     pub entry: Entry,
+    /// The numbers and the values of a store; a boot takes the numbers alone.
+    pub timing: Timing,
 }
 
 /// The numbers of a granted result, and its name or content.
@@ -115,7 +129,21 @@ pub fn run(
         Request::RomEntry => romfs::entry(image, number).map(described),
         Request::RomLength => romfs::content_length(image, number).map(one),
         Request::RomContent => Ok(part(romfs::content(image, number))),
+        Request::TimingStore => timing::store(image, &arguments.timing).map(nothing),
+        Request::TimingOpenLid => timing::open_lid(image).map(nothing),
+        Request::TimingBoot => boot(&arguments.timing, image),
+        Request::TimingStoreBlock => {
+            timing::store_block(image, &arguments.timing, arguments.k, buffer).map(one)
+        }
+        Request::TimingOpenLidBlock => timing::open_lid_block(image, arguments.k, buffer).map(one),
     }
+}
+
+/// The values of a granted boot.
+fn boot(timing: &Timing, image: &[u8]) -> Result<Granted, Refusal> {
+    let booted = timing::boot(image, timing.board, timing.maker);
+    booted.answer?;
+    Ok((booted.values.map(u32::from).to_vec(), Vec::new()))
 }
 
 /// The k-th store of a create, a remove or a write.

@@ -133,3 +133,12 @@ pub fn number(word: &OsStr) -> Option<u32> {
     let digits = text.bytes().all(|byte| byte.is_ascii_digit());
     digits.then(|| text.parse().ok()).flatten()
 }
+
+/// Reads a number in decimal digits, or in hex digits after "0x".
+pub fn decimal_or_hex(text: &str) -> Option<u32> {
+    let Some(digits) = text.strip_prefix("0x") else {
+        return number(OsStr::new(text));
+    };
+    let hex = digits.bytes().all(|byte| byte.is_ascii_hexdigit());
+    hex.then(|| u32::from_str_radix(digits, 16).ok()).flatten()
+}

@@ -1,8 +1,8 @@
 //! The commands: their words, their help, and what they call.
 
-use crate::arguments::{size, Arguments, Options};
+use crate::arguments::{decimal_or_hex, size, Arguments, Options};
 use crate::failure::{Failure, Outcome};
-use crate::{dump, rom, trace, volume};
+use crate::{dump, rom, timing, trace, volume};
 use std::ffi::OsString;
 use std::os::unix::ffi::OsStrExt;
 
@@ -51,7 +51,7 @@ A block device is always changed in place."
     };
 }
 
-const COMMANDS: [Command; 16] = [
+const COMMANDS: [Command; 20] = [
     Command {
         name: "make",
         usage: "IMAGE --size BYTES [--label NAME] [--force]",
@@ -205,6 +205,66 @@ is replaced.",
         run: |given| trace::make(given.path(0), given.path(1)),
     },
     Command {
+        name: "timing show",
+        usage: "IMAGE",
+        about: "Prints the board number, the memory maker number and the 28 values of the timing file, which is
+TIMING. A board number of 0 says that the lid was opened, or that a first store was cut off. Refused
+where the file is absent (13) or has another size than 64 bytes (35).",
+        words: (1, 1),
+        options: NO_OPTIONS,
+        run: |given| timing::show(given.path(0)),
+    },
+    Command {
+        name: "timing store",
+        usage: "IMAGE --board N --maker N VALUES [--in-place]",
+        about: concat!(
+            "Stores both numbers and 28 values in the timing file, which is made if it is absent.
+VALUES is a host file, or - for standard input, with 28 numbers from 0 to 65535 and white space
+between them, as tfs timing boot prints them. Where it has others (exit status 5), the image is not
+even read. All numbers are decimal, or hex after 0x. Refused for board number 0 (34), where the file
+has another size than 64 bytes (35), and where it is absent and has no slot (11) or no room (12).",
+            in_place!(),
+            "
+A boot after such a cut, and tfs mend, gets the old values, the new ones, or none."
+        ),
+        words: (2, 2),
+        options: Options {
+            valued: &["--board", "--maker"],
+            flags: &["--in-place"],
+        },
+        run: timing_store,
+    },
+    Command {
+        name: "timing open-lid",
+        usage: "IMAGE [--in-place]",
+        about: concat!(
+            "Notes in the timing file that the lid was opened: the board number there becomes 0, and no boot
+gets values until some are stored again, unless TIMING itself is written by put. Refused where the
+file is absent (13) or has another size than 64 bytes (35).",
+            in_place!()
+        ),
+        words: (1, 1),
+        options: Options {
+            valued: &[],
+            flags: &["--in-place"],
+        },
+        run: |given| timing::open_lid(given.path(0), given.flag("--in-place")),
+    },
+    Command {
+        name: "timing boot",
+        usage: "IMAGE --board N --maker N",
+        about: "Prints the 28 values, if the timing file has both these numbers, or refuses as the pump's boot
+does: the file is absent (13), has another size than 64 bytes (35), has board number 0 (34: the lid
+was opened, or a first store was cut off), is another board's (36), another memory maker's (37).
+Changes nothing.",
+        words: (1, 1),
+        options: Options {
+            valued: &["--board", "--maker"],
+            flags: &[],
+        },
+        run: |given| timing::boot(given.path(0), owner("timing boot", given)?),
+    },
+    Command {
         name: "dump",
         usage: "IMAGE slot N | inode N | map | header",
         about: "Prints bytes of the volume in hex, and what they mean.
@@ -257,10 +317,11 @@ Hard links are followed, symbolic links are not.",
 
 const STATUS: &str = "Exit status: 0 done; 1 refused by the rules of the filesystem; 2 wrong usage;
 3 a host file cannot be read or written; 4 a replayed request was answered otherwise; 5 a record
-or a line of a trace is malformed. After a failure every file is as it was, but: replay --out
-writes its copy; --record adds refused requests to the trace; what was written before standard
-output failed stays; so does an image or file whose trace could not be put in place; and so do the
-blocks that a command in place had stored. The message says so in the last two cases.\n";
+or a line of a trace, or a file of timing values, is malformed. After a failure every file is as it
+was, but: replay --out writes its copy; --record adds refused requests to the trace; what was
+written before standard output failed stays; so does an image or file whose trace could not be put
+in place; and so do the blocks that a command in place had stored. The message says so in the last
+two cases.\n";
 
 /// Runs the command that words ask for.
 pub fn run(words: Vec<OsString>) -> Outcome {
@@ -342,7 +403,7 @@ fn overview() -> String {
     let line = |command: &Command| format!("  tfs {} {}\n", command.name, command.usage);
     let lines: String = COMMANDS.iter().map(line).collect();
     format!(
-        "A bench tool for TFS volumes, traces of requests on them, and romfs images.\n\n{lines}\n\
+        "A bench tool for TFS volumes, the pump's timing file, traces of requests, and romfs images.\n\n{lines}\n\
          tfs COMMAND --help tells more of a command, tfs --version the version.\n\n{STATUS}"
     )
 }
@@ -378,6 +439,32 @@ fn get(given: &Arguments) -> Outcome {
 fn remove(given: &Arguments) -> Outcome {
     let (record, in_place) = (given.path_of("--record"), given.flag("--in-place"));
     volume::remove(given.path(0), given.bytes(1), record, in_place)
+}
+
+fn timing_store(given: &Arguments) -> Outcome {
+    let owner = owner("timing store", given)?;
+    timing::store(
+        given.path(0),
+        owner,
+        given.path(1),
+        given.flag("--in-place"),
+    )
+}
+
+/// The numbers that a command on the timing file needs.
+fn owner(command: &str, given: &Arguments) -> Result<timing::Owner, Failure> {
+    let number = |option: &str| {
+        let failed = |why: String| Failure::Usage(format!("{command}: {option} {why}"));
+        let word = given
+            .value(option)
+            .ok_or_else(|| failed("is needed".to_string()))?;
+        let read = word.to_str().and_then(decimal_or_hex);
+        read.ok_or_else(|| failed(format!("{}: no number below 2^32", word.display())))
+    };
+    Ok(timing::Owner {
+        board: number("--board")?,
+        maker: number("--maker")?,
+    })
 }
 
 fn dump(given: &Arguments) -> Outcome {

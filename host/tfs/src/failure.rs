@@ -15,13 +15,15 @@ pub enum Failure {
     Usage(String),
     /// The rules of the filesystem in this file refuse it.
     Refused(PathBuf, Refusal),
-    /// The same, and a mend of the volume would be granted.
+    /// The same by the refusal's number, in words of the command's own.
+    Worded(PathBuf, u32, &'static str),
+    /// Refused, and a mend of the volume would be granted.
     Mendable(PathBuf, Refusal),
     /// This host file cannot be read or written.
     Host(PathBuf, String),
     /// A request of this trace was answered otherwise than expected.
     Differs(PathBuf, String),
-    /// This trace has a malformed record, or these lines a bad one.
+    /// This trace has a malformed record, or these lines or values a bad one.
     Malformed(PathBuf, String),
 }
 
@@ -48,7 +50,7 @@ impl Failure {
     /// The exit status.
     pub fn status(&self) -> u8 {
         match self {
-            Self::Refused(..) | Self::Mendable(..) => 1,
+            Self::Refused(..) | Self::Worded(..) | Self::Mendable(..) => 1,
             Self::Usage(_) => 2,
             Self::Host(..) => 3,
             Self::Differs(..) => 4,
@@ -68,6 +70,9 @@ impl fmt::Display for Failure {
                     Self::Mendable(..) => f.write_str(" (tfs mend helps)"),
                     _ => Ok(()),
                 }
+            }
+            Self::Worded(image, number, words) => {
+                write!(f, "{}: refused {number}: {words}", image.display())
             }
             Self::Host(path, why) | Self::Differs(path, why) | Self::Malformed(path, why) => {
                 write!(f, "{}: {why}", path.display())

@@ -47,6 +47,11 @@ impl Image {
         }
     }
 
+    /// A refusal by its number as a failure with this image, in other words than the usual ones.
+    pub fn refused_as(&self, number: u32, words: &'static str) -> Failure {
+        Failure::Worded(self.path.clone(), number, words)
+    }
+
     /// A failure to read what this image must have.
     pub fn unread(&self, why: impl std::fmt::Display) -> Failure {
         Failure::host(&self.path, why)

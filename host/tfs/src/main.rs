@@ -1,4 +1,4 @@
-//! A bench tool for TFS volumes, traces of requests on them, and romfs images.
+//! A bench tool for TFS volumes, the pump's timing file, traces of requests, and romfs images.
 //!
 //! The requests are those of the proved library; this program only reads and writes host files.
 
@@ -12,6 +12,7 @@ mod files;
 mod image;
 mod rom;
 mod stores;
+mod timing;
 mod trace;
 mod volume;
 mod words;

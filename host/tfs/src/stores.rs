@@ -1,7 +1,7 @@
 //! Changes of a volume made store by store, so that power may be taken between any two of them.
 
-use proved::tfs;
-use proved::Refusal;
+use proved::timing::{self, VALUES};
+use proved::{tfs, Refusal};
 use std::fs::File;
 use std::io;
 use std::os::unix::fs::FileExt;
@@ -25,6 +25,10 @@ pub enum Change<'a> {
     Write(&'a [u8], &'a [u8]),
     /// The bits of the map that nobody claims are cleared.
     Mend,
+    /// The timing file gets this board number, this maker number and these values.
+    StoreTiming(u32, u32, &'a [u16; VALUES]),
+    /// The board number in the timing file becomes 0.
+    OpenLid,
 }
 
 /// A block with its number.
@@ -39,6 +43,10 @@ impl Change<'_> {
             Self::Remove(name) => tfs::remove_store(volume, name, k, &mut block),
             Self::Write(name, bytes) => tfs::write_store(volume, name, 0, bytes, k, &mut block),
             Self::Mend => mended(volume, k, &mut block),
+            Self::StoreTiming(board, maker, values) => {
+                timing::store_block(volume, board, maker, values, k, &mut block)
+            }
+            Self::OpenLid => timing::open_lid_block(volume, k, &mut block),
         }?;
         Ok((number, block))
     }
@@ -50,6 +58,8 @@ impl Change<'_> {
             Self::Remove(name) => tfs::remove(volume, name),
             Self::Write(name, bytes) => tfs::write(volume, name, 0, bytes).map(drop),
             Self::Mend => tfs::mend(volume),
+            Self::StoreTiming(board, maker, values) => timing::store(volume, board, maker, values),
+            Self::OpenLid => timing::open_lid(volume),
         }
     }
 }

@@ -57,6 +57,10 @@ fn plain(number: u32) -> &'static str {
         31 => "not a header of the tree, not a directory, or not a file with content",
         32 => "there is no such store, or the buffer is under 512 bytes",
         33 => "the record has no room, or a number or a length of 2^32 or more",
+        34 => "board number 0: the lid was opened, or a first store was cut off",
+        35 => "the timing file has another size than 64 bytes",
+        36 => "the timing file is another board's",
+        37 => "the timing file is another memory maker's",
         _ => "for a reason that this tool does not know",
     }
 }
@@ -81,7 +85,7 @@ mod tests {
     fn every_refusal_has_words_of_its_own() {
         let unknown = plain(0);
         let mut seen = Vec::new();
-        for number in (1..=15).chain(21..=33) {
+        for number in (1..=15).chain(21..=37) {
             let words = refusal(Refusal { number, place: 77 });
             let placed = matches!(number, 4..=7 | 26..=29);
             assert_eq!(words.contains("77"), placed, "{number}");

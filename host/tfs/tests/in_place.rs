@@ -178,9 +178,9 @@ fn a_block_device_is_not_replaced_by_a_file() {
 }
 
 #[test]
-fn only_put_remove_and_mend_know_the_option() {
+fn only_commands_that_change_a_volume_know_the_option() {
     let folder = with_volumes("in_place_option");
-    for command in ["put", "remove", "mend"] {
+    for command in ["put", "remove", "mend", "timing store", "timing open-lid"] {
         let help = folder.tfs(&format!("{command} --help")).text();
         assert!(help.contains("[--in-place]"), "{command}");
         assert!(
@@ -194,6 +194,8 @@ fn only_put_remove_and_mend_know_the_option() {
         "list v",
         "free v",
         "make x --size 64K",
+        "timing show v",
+        "timing boot v",
     ] {
         let ran = folder.tfs(&format!("{line} --in-place"));
         assert_eq!(ran.status, 2, "{line}");

@@ -120,6 +120,7 @@ fn the_hint_comes_exactly_where_a_mend_is_granted() {
 fn every_command_has_the_hint() {
     let folder = with_files("mend_commands");
     folder.write("t", b"");
+    folder.write("values", &[b'7', b' '].repeat(28));
     flip(&folder, "v", &[20]);
     let message = "v: refused 7: block 20 has a map bit that differs from its use (tfs mend helps)";
     for line in [
@@ -132,6 +133,10 @@ fn every_command_has_the_hint() {
         "remove v a",
         "remove v a --in-place",
         "replay v t",
+        "timing show v",
+        "timing store v --board 1 --maker 1 values",
+        "timing open-lid v --in-place",
+        "timing boot v --board 1 --maker 1",
     ] {
         folder.refused(line, 1, message);
     }

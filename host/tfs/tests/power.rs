@@ -119,16 +119,98 @@ fn cut_everywhere(folder: &Folder, circumstances: &str, line: &str, all: &[Serie
     assert!(folder.read("v") == last.new, "{line}");
 }
 
+/// The same on a regular file that is changed in place, and on a device.
+fn cut_in_every_way(folder: &Folder, line: &str, all: &[Series]) {
+    for (option, circumstances) in IN_PLACE {
+        cut_everywhere(folder, circumstances, &format!("{line}{option}"), all);
+    }
+}
+
 #[test]
 fn power_is_taken_after_every_store() {
     let folder = with_power("power");
     let old = folder.read("old");
     for (line, changes) in commands() {
         let all = series(changes, &old);
-        for (option, circumstances) in IN_PLACE {
-            let line = format!("{line}{option}");
-            cut_everywhere(&folder, circumstances, &line, &all);
+        cut_in_every_way(&folder, line, &all);
+    }
+}
+
+/// The content of a timing file with equal values, and the line that stores it.
+fn timing(board: u8, maker: u8, value: u8) -> (Vec<u8>, String) {
+    let mut bytes = vec![0, 0, 0, board, 0, 0, 0, maker];
+    bytes.extend([0, value].repeat(28));
+    let line = format!("timing store v --board {board} --maker {maker} values{value}");
+    (bytes, line)
+}
+
+/// The first of the values that a boot gets, or its refusal; the other values must be the same.
+fn boot(folder: &Folder, board: u8, maker: u8) -> Result<u32, String> {
+    let ran = folder.tfs(&format!("timing boot v --board {board} --maker {maker}"));
+    if ran.status == 1 {
+        let words = ran.err.split(' ');
+        return Err(words.skip(2).take(2).collect::<Vec<_>>().join(" "));
+    }
+    let text = ran.text();
+    let values: Vec<u32> = text
+        .split_whitespace()
+        .map(|word| word.parse().unwrap())
+        .collect();
+    assert_eq!(values, [values[0]; 28]);
+    Ok(values[0])
+}
+
+/// Takes the power after each number of stores, mends, and boots with the old numbers and the new.
+fn boots_after_cuts(folder: &Folder, line: &str, expected: &[[Result<u32, &str>; 2]]) {
+    for (option, circumstances) in IN_PLACE {
+        let line = format!("{line}{option}");
+        for (count, expected) in expected.iter().enumerate() {
+            run(folder, &format!("TFS_CUT={count} {circumstances}"), &line);
+            folder.tfs("mend v --in-place").granted();
+            let booted = [boot(folder, 7, 1), boot(folder, 8, 2)];
+            let expected = expected.map(|boot| boot.map_err(|number| format!("refused {number}:")));
+            assert_eq!(booted, expected, "{line}, {count}");
         }
+    }
+}
+
+/// Writes host files with 28 times 11 and 28 times 22.
+fn write_values(folder: &Folder) {
+    for value in [11, 22] {
+        let values = format!("{value} ").repeat(28);
+        folder.write(&format!("values{value}"), values.as_bytes());
+    }
+}
+
+#[test]
+fn power_is_taken_from_the_timing_file() {
+    let folder = with_power("power_timing");
+    write_values(&folder);
+    let write = |bytes: &[u8]| Change::Write(b"TIMING".to_vec(), 0, bytes.to_vec());
+    let create = Change::Create(b"TIMING".to_vec(), 64);
+    let ((first, store), (second, store_again)) = (timing(7, 1, 11), timing(8, 2, 22));
+    let opening = "timing open-lid v".to_string();
+    let none = |number| [Err(number); 2];
+    let absent = none("13");
+    let mut made = vec![absent, absent, absent, absent, none("34")];
+    made.push([Ok(11), Err("36")]);
+    for (line, changes, boots) in [
+        (store, vec![create, write(&first)], made),
+        (
+            store_again,
+            vec![write(&second)],
+            vec![[Ok(11), Err("36")], [Err("36"), Ok(22)]],
+        ),
+        (
+            opening,
+            vec![write(&[0; 4])],
+            vec![[Err("36"), Ok(22)], none("34")],
+        ),
+    ] {
+        let all = series(changes, &folder.read("old"));
+        cut_in_every_way(&folder, &line, &all);
+        boots_after_cuts(&folder, &line, &boots);
+        folder.write("old", &all.last().unwrap().new);
     }
 }
 

@@ -10,6 +10,7 @@ use generate::Random;
 fn every_fault_of_a_volume_is_named() {
     let folder = Folder::new("faults");
     folder.write("in", b"content");
+    folder.write("values", &[b'7', b' '].repeat(28));
     for rule in 1..=7 {
         let mut random = Random::new(rule);
         let sound = volume(&mut random, Shape::Scattered, 60);
@@ -29,6 +30,12 @@ fn every_fault_of_a_volume_is_named() {
             "put v in --in-place",
             "remove v in --in-place",
             "mend v --in-place",
+            "timing show v",
+            "timing store v --board 0 --maker 1 values",
+            "timing store v --board 1 --maker 1 values --in-place",
+            "timing open-lid v",
+            "timing open-lid v --in-place",
+            "timing boot v --board 1 --maker 1",
         ] {
             folder.refused(line, 1, &message);
         }

@@ -8,7 +8,7 @@ const PUT: &str =
     "put IMAGE HOSTFILE [--name NAME] [--replace] [--blocks] [--in-place] [--record TRACE]";
 
 /// The commands, each with the first of its words.
-const COMMANDS: [&str; 16] = [
+const COMMANDS: [&str; 20] = [
     "make IMAGE",
     "check IMAGE",
     "list IMAGE",
@@ -20,6 +20,10 @@ const COMMANDS: [&str; 16] = [
     "replay IMAGE",
     "trace show TRACE",
     "trace make LINES",
+    "timing show IMAGE",
+    "timing store IMAGE",
+    "timing open-lid IMAGE",
+    "timing boot IMAGE",
     "dump IMAGE",
     "rom check IMAGE",
     "rom list IMAGE",
@@ -69,7 +73,13 @@ fn the_version_is_that_of_the_crate() {
 fn an_unknown_command_has_status_2() {
     let folder = Folder::new("unknown");
     folder.refused("", 2, "no command; tfs --help lists them");
-    for (line, first) in [("mount v", "mount"), ("rom", "rom"), ("rom mount v", "rom")] {
+    for (line, first) in [
+        ("mount v", "mount"),
+        ("rom", "rom"),
+        ("rom mount v", "rom"),
+        ("timing", "timing"),
+        ("timing close-lid v", "timing"),
+    ] {
         let message = format!("{first}: no such command; tfs --help lists them");
         folder.refused(line, 2, &message);
     }

@@ -13,8 +13,8 @@
 //! A *number* is four bytes and a *hash* eight, both big-endian. *Bytes* are a number, which
 //! is their length, and then so many bytes. The file is a number, which is the count of cases,
 //! and then the cases one after another with nothing between or behind them. Each case has the
-//! same parts in the same order, and the parts that its request has no use for are 0 or empty; only
-//! requests 12, 13 and 14 have the parts that are marked with them:
+//! same parts in the same order, and the parts that its request has no use for are 0, empty or
+//! anything; only the requests whose numbers stand beside a part have it:
 //!
 //! | Part | Form | Meaning |
 //! |---|---|---|
@@ -25,6 +25,9 @@
 //! | image | bytes | image as it is before the request |
 //! | k (12, 13, 14) | two numbers, the higher 32 bits first | which store, from 1 |
 //! | bytes (12, 13, 14) | bytes | what is to be written; empty but for 14 |
+//! | board, maker (22 to 26) | two numbers | board number, number of the memory maker |
+//! | values (22 to 26) | 28 numbers | values to be stored |
+//! | k (22 to 26) | two numbers, the higher 32 bits first | which store, from 1 |
 //! | refusal | number | number of the refusal, 0 if granted |
 //! | place | number | place of the refusal, 0 if granted |
 //! | values | count as a number, then so many numbers | result, no values if refused |
@@ -32,7 +35,8 @@
 //! | after | hash | FNV-1a, 64 bits, of the image and then the buffer after the request |
 //!
 //! The hash stands in every case. A refused request leaves image and buffer as they were, and
-//! so do the requests marked with a dash.
+//! so do the requests marked with a dash. A boot's buffer is noise as long as its values, and
+//! afterwards the values, two bytes each: those that it gives, or zeros where it is refused.
 //!
 //! | Number | Request | Uses | Values, text if granted | Changes |
 //! |---|---|---|---|---|
@@ -54,6 +58,11 @@
 //! | 19 | romfs entry | number = header | type, executable (0 or 1), spec.info, size, next, name length | - |
 //! | 20 | romfs content length | number = header | length | - |
 //! | 21 | romfs content | number = header | length, and text = content; both 0 and empty where it is refused, never a refusal | - |
+//! | 22 | timing store | board, maker, values | | image |
+//! | 23 | timing open lid | | | image |
+//! | 24 | timing boot | board, maker, buffer | | buffer |
+//! | 25 | timing store's k-th store | board, maker, values, k, buffer | number of the block | buffer |
+//! | 26 | timing open lid's k-th store | k, buffer | number of the block | buffer |
 
 #![forbid(unsafe_code)]
 
@@ -62,6 +71,8 @@ use std::fs;
 use std::process::ExitCode;
 
 use generate::cases::{romfs_cases, stored, tfs_cases, Case};
+use generate::timing::is_on_file;
+use reference::request::Arguments;
 
 const USAGE: &str = "usage: pack tfs|romfs OUT [--seed S] [--cases N] [--large]";
 
@@ -140,6 +151,9 @@ fn put_case(out: &mut Vec<u8>, case: &Case) {
         out.extend_from_slice(&(arguments.k as u64).to_be_bytes());
         put_bytes(out, &arguments.bytes);
     }
+    if is_on_file(*request) {
+        put_timing(out, arguments);
+    }
     put_number(out, answer.number);
     put_number(out, answer.place);
     put_number(out, answer.values.len() as u32);
@@ -148,6 +162,15 @@ fn put_case(out: &mut Vec<u8>, case: &Case) {
     }
     put_bytes(out, &answer.text);
     out.extend_from_slice(&answer.hash.to_be_bytes());
+}
+
+fn put_timing(out: &mut Vec<u8>, arguments: &Arguments) {
+    put_number(out, arguments.timing.board);
+    put_number(out, arguments.timing.maker);
+    for value in arguments.timing.values {
+        put_number(out, value.into());
+    }
+    out.extend_from_slice(&(arguments.k as u64).to_be_bytes());
 }
 
 fn put_number(out: &mut Vec<u8>, number: u32) {
@@ -226,6 +249,27 @@ mod tests {
             expected.extend(case.answer.hash.to_be_bytes());
             assert_eq!(pack(&[case]), expected);
         }
+    }
+
+    #[test]
+    fn a_request_on_the_timing_file_has_its_numbers_and_values() {
+        use reference::request::Request;
+        let mut arguments = Arguments {
+            buffer: vec![0xCD],
+            k: 0x0102_0304_0506_0708,
+            ..Arguments::default()
+        };
+        (arguments.timing.board, arguments.timing.maker) = (0x0A0B_0C0D, 0x1A1B_1C1D);
+        arguments.timing.values = std::array::from_fn(|index| 0x0100 + index as u16);
+        let case = Case::new(Request::TimingStoreBlock, arguments, &[0xAB]);
+        let mut expected = vec![0, 0, 0, 1, 25, 0, 0, 0, 0, 0, 0, 0, 0];
+        expected.extend([0, 0, 0, 1, 0xCD, 0, 0, 0, 1, 0xAB]);
+        expected.extend([0x0A, 0x0B, 0x0C, 0x0D, 0x1A, 0x1B, 0x1C, 0x1D]);
+        (0..28).for_each(|index| expected.extend([0, 0, 1, index]));
+        expected.extend([1, 2, 3, 4, 5, 6, 7, 8]);
+        expected.extend([1u32, 0, 0, 0].map(u32::to_be_bytes).concat());
+        expected.extend(case.answer.hash.to_be_bytes());
+        assert_eq!(pack(&[case]), expected);
     }
 
     #[test]

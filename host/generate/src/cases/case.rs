@@ -1,7 +1,7 @@
 //! A request on an image, and the answer of the reference to it.
 
-use reference::request::{run, Arguments, Request};
-use reference::Refusal;
+use reference::request::{run, Arguments, Granted, Request};
+use reference::{timing, Refusal};
 
 /// What is expected of a request.
 #[derive(Clone, Debug, PartialEq, Eq)]
@@ -36,7 +36,7 @@ impl Case {
     pub fn new(request: Request, arguments: Arguments, image: &[u8]) -> Self {
         let mut after = image.to_vec();
         let mut buffer = arguments.buffer.clone();
-        let result = run(request, &arguments, &mut after, &mut buffer);
+        let result = answered(request, &arguments, &mut after, &mut buffer);
         let hash = fnv1a(after.iter().chain(&buffer));
         let answer = match result {
             Ok((values, text)) => Answer {
@@ -61,6 +61,21 @@ impl Case {
             answer,
         }
     }
+}
+
+/// Makes a request; a boot puts its values, two bytes each, in the place of the buffer.
+fn answered(
+    request: Request,
+    arguments: &Arguments,
+    image: &mut [u8],
+    buffer: &mut Vec<u8>,
+) -> Result<Granted, Refusal> {
+    if request != Request::TimingBoot {
+        return run(request, arguments, image, buffer);
+    }
+    let booted = timing::boot(image, arguments.timing.board, arguments.timing.maker);
+    *buffer = booted.values.map(u16::to_be_bytes).concat();
+    booted.answer.map(|()| Granted::default())
 }
 
 /// Gives the 64-bit FNV-1a hash of bytes.

@@ -30,7 +30,7 @@ pub fn store_arguments(
             Request::TfsWriteStore => arguments.buffer,
             _ => Vec::new(),
         },
-        buffer: room(random),
+        buffer: some_room(random),
         ..arguments
     }
 }
@@ -56,7 +56,7 @@ pub(super) fn count(made: &Volume, request: Request, arguments: &Arguments) -> u
 
 /// A number of a store, mostly one of those that there are; some are right in their lower 32 bits
 /// only.
-fn some_k(random: &mut Random, last: usize) -> usize {
+pub(crate) fn some_k(random: &mut Random, last: usize) -> usize {
     let inside = random.between(1, last.max(1));
     let high = usize::from(random.nonzero()) << 32;
     let far = random.pick(&[
@@ -77,7 +77,7 @@ fn some_k(random: &mut Random, last: usize) -> usize {
 }
 
 /// A buffer of noise, mostly with room for a block.
-fn room(random: &mut Random) -> Vec<u8> {
+pub(crate) fn some_room(random: &mut Random) -> Vec<u8> {
     let longer = random.between(514, 1_500);
     let length = match random.below(8) {
         0 => random.pick(&[0, 0, 1, 511, 511, 511]),

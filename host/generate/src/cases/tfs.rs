@@ -7,7 +7,7 @@ use super::case::Case;
 use super::drawn::Drawn;
 use super::tfs_arguments::{size, tfs_arguments};
 use super::trace_arguments::trace_arguments;
-use super::{mends, ranges, stores, traces};
+use super::{mends, ranges, stores, timings, traces};
 use crate::tfs::{
     any_volume, change_case, damage_slot, damage_volume, damage_volume_twice, has_leftovers,
     padding, scramble_volume, volume, File, Shape, SlotFault, Volume,
@@ -37,7 +37,8 @@ const OTHERS: [Request; 16] = [
 ///
 /// Every answer of every request, every way to break a slot or the map, every place where the end
 /// of a volume cuts a word of the map, reads and writes around the edges of blocks, and every store
-/// of some requests come up before the rest is left to chance. Volumes have 40 blocks at most, but
+/// of some requests come up before the rest is left to chance. Some volumes have a timing file.
+/// Volumes have 40 blocks at most, but
 /// some have up to 133; with `large` the last few cases are on a volume of 4096 blocks.
 pub fn tfs_cases(seed: u64, count: usize, large: bool) -> Vec<Case> {
     let mut drawn = Drawn::new(seed);
@@ -48,6 +49,10 @@ pub fn tfs_cases(seed: u64, count: usize, large: bool) -> Vec<Case> {
     };
     one_of_each(&mut drawn);
     while drawn.cases.len() < count - last {
+        if drawn.random.one_in(8) {
+            timings::on_next_volume(&mut drawn);
+            continue;
+        }
         let made = next_volume(&mut drawn.random);
         on_volume(&mut drawn, &made);
     }
@@ -169,6 +174,7 @@ fn one_of_each(drawn: &mut Drawn) {
     traces::one_of_each(drawn, &made, &damaged);
     stores::one_of_each(drawn, &crowded, &damaged);
     mends::one_of_each(drawn, &made, &damaged);
+    timings::one_of_each(drawn, &crowded);
 }
 
 /// A small volume of several files, the largest of which has a name of some letters, and one that
@@ -284,7 +290,7 @@ fn transfers(drawn: &mut Drawn, name: &[u8], size: u32, image: &[u8]) {
 }
 
 /// An image for each refusal of a check.
-fn faults(random: &mut Random, made: &Volume) -> Vec<Vec<u8>> {
+pub(super) fn faults(random: &mut Random, made: &Volume) -> Vec<Vec<u8>> {
     let fault = |rule| loop {
         if let Some((damaged, _)) = damage_volume(random, made, rule) {
             return damaged;

@@ -2,13 +2,15 @@
 
 use reference::request::{Arguments, Request};
 use reference::tfs::{BLOCK_SIZE, LARGEST_FILE};
+use reference::timing::Timing;
 
 use super::standing::contents;
 use crate::cases::around_edges;
 use crate::tfs::{File, Volume};
+use crate::timing::{self, some_timing};
 use crate::Random;
 
-/// A create, a remove or a write.
+/// A create, a remove or a write; a store of the timing file or an opening of the lid.
 #[derive(Clone, Debug, PartialEq, Eq)]
 pub enum Change {
     /// A file of this name and size is made.
@@ -17,16 +19,22 @@ pub enum Change {
     Remove(Vec<u8>),
     /// These bytes are written into the file of this name, from this offset on.
     Write(Vec<u8>, u32, Vec<u8>),
+    /// These numbers and values go into the timing file, which is made if it is absent.
+    Store(Timing),
+    /// The board number of the timing file becomes 0.
+    OpenLid,
 }
 
 impl Change {
-    /// Draws a change that is granted on a volume, and of a kind (0 create, 1 remove, 2 write) that
-    /// it has the room or the files for.
+    /// Draws a change that is granted on a volume, and of a kind (0 create, 1 remove, 2 write, 3 store,
+    /// 4 opening) that it has the room or the files for.
     pub fn draw(random: &mut Random, made: &Volume, kind: usize) -> Option<Self> {
         let files: Vec<&File> = made.files.iter().collect();
         match kind {
             0 => Self::create(random, made),
             1 => Some(Self::Remove(random.choose(&files)?.name.clone())),
+            3 => Self::store_of_timing(random, made),
+            4 => timing::held(&made.image).map(|_| Self::OpenLid),
             _ => {
                 let (one, other) = (random.choose(&files)?, random.choose(&files)?);
                 let file = if one.size < other.size { other } else { one };
@@ -69,6 +77,18 @@ impl Change {
         Self::Write(file.name.clone(), offset, bytes)
     }
 
+    /// A store, if the timing file has its size, or is absent and has a slot and the room; often with
+    /// the numbers that it holds.
+    fn store_of_timing(random: &mut Random, made: &Volume) -> Option<Self> {
+        let held = timing::held(&made.image);
+        let stands = made.files.iter().any(|file| file.name == timing::NAME);
+        let creates = !stands && made.free_slot().is_some() && made.free_blocks() >= 2;
+        let known = held.filter(|held| held.board != 0);
+        let timing = some_timing(random, known.as_slice());
+        let board = timing.board.max(1);
+        (held.is_some() || creates).then_some(Self::Store(Timing { board, ..timing }))
+    }
+
     /// The whole request.
     pub fn whole(&self) -> (Request, Arguments) {
         let arguments = |number: u32, name: &[u8], buffer: &[u8]| Arguments {
@@ -83,6 +103,14 @@ impl Change {
             Self::Write(name, offset, bytes) => {
                 (Request::TfsWrite, arguments(*offset, name, bytes))
             }
+            Self::Store(timing) => {
+                let arguments = Arguments {
+                    timing: *timing,
+                    ..Arguments::default()
+                };
+                (Request::TimingStore, arguments)
+            }
+            Self::OpenLid => (Request::TimingOpenLid, Arguments::default()),
         }
     }
 
@@ -99,6 +127,8 @@ impl Change {
         let request = match whole {
             Request::TfsCreate => Request::TfsCreateStore,
             Request::TfsRemove => Request::TfsRemoveStore,
+            Request::TimingStore => Request::TimingStoreBlock,
+            Request::TimingOpenLid => Request::TimingOpenLidBlock,
             _ => Request::TfsWriteStore,
         };
         (request, arguments)

@@ -2,10 +2,12 @@
 
 use reference::request::run;
 use reference::tfs::BLOCK_SIZE;
+use reference::timing::VALUES;
 use reference::Refusal;
 
 use super::change::Change;
-use super::standing::{contents, file, Standing};
+use super::standing::{contents, file, Contents, Standing};
+use crate::timing::{self, held, values_for};
 use crate::Random;
 
 const MAP: u32 = 1;
@@ -99,11 +101,24 @@ impl Series {
                 let met = (0..written.blocks.len()).filter(met);
                 met.map(|index| written.blocks[index]).collect()
             }
+            Change::Store(_) if self.creates_timing() => {
+                let made = file(&self.new, timing::NAME)?;
+                let content = *made.blocks.first()?;
+                vec![content, made.inode, MAP, DIRECTORY, content]
+            }
+            Change::Store(_) | Change::OpenLid => file(&self.old, timing::NAME)?.blocks,
         })
     }
 
-    /// Tells whether the stores are those that the rules list, each block once, and all together
-    /// the request: so that each is its block as it is after the request.
+    /// Tells whether the change is a store that makes the timing file.
+    fn creates_timing(&self) -> bool {
+        let store = matches!(self.change, Change::Store(_));
+        store && file(&self.old, timing::NAME).is_none()
+    }
+
+    /// Tells whether the stores are those that the rules list, each block once, but for the content of
+    /// a timing file that is made, and all together the request: so that each, but for the first
+    /// of that content, is its block as it is after the request.
     pub fn is_whole(&self) -> Result<(), Broken> {
         let mut numbers: Vec<u32> = self.stores.iter().map(|(number, _)| *number).collect();
         let listed = self.listed().as_ref() == Some(&numbers);
@@ -114,7 +129,8 @@ impl Series {
         let count = numbers.len();
         numbers.sort();
         numbers.dedup();
-        promise(numbers.len() == count, "a block is stored twice")?;
+        let again = usize::from(self.creates_timing());
+        promise(numbers.len() + again == count, "a block is stored twice")?;
         let whole = self.cut(count) == self.new;
         promise(
             whole,
@@ -136,22 +152,72 @@ impl Series {
             check == owed,
             "the check answers another than the first stray bit",
         )?;
+        match self.owed(made) {
+            Some(owed) => promise(
+                standing.contents == owed,
+                "names, sizes or contents are not as promised",
+            ),
+            None => {
+                promise(check.is_none(), "a write that is cut breaks a rule")?;
+                promise(
+                    self.is_old_or_new(made, cut),
+                    "a block is neither old nor new",
+                )
+            }
+        }
+    }
+
+    /// The names and contents after so many stores of a change of the directory; nothing for a write.
+    fn owed(&self, made: usize) -> Option<Contents> {
         let last = self.stores.len();
         let new = match &self.change {
             Change::Create(..) => made == last,
             Change::Remove(_) => made > 0,
-            Change::Write(..) => {
-                promise(check.is_none(), "a write that is cut breaks a rule")?;
-                return promise(
-                    self.is_old_or_new(made, cut),
-                    "a block is neither old nor new",
-                );
+            Change::Store(_) if self.creates_timing() => {
+                // The file stands from the last but one store on, with zeros up to the last.
+                let mut owed = contents(if made + 1 < last {
+                    &self.old
+                } else {
+                    &self.new
+                });
+                let zeros = owed.get_mut(timing::NAME).filter(|_| made < last);
+                zeros.into_iter().for_each(|content| content.fill(0));
+                return Some(owed);
             }
+            Change::Write(..) | Change::Store(_) | Change::OpenLid => return None,
         };
-        let owed = contents(if new { &self.new } else { &self.old });
+        Some(contents(if new { &self.new } else { &self.old }))
+    }
+
+    /// Numbers to boot with after a cut: those that the timing file holds before the change and after
+    /// it, both mixed, and 0.
+    pub fn boot_numbers(&self) -> Vec<(u32, u32)> {
+        let held = [&self.old, &self.new].map(|image| held(image).unwrap_or_default());
+        let boards = [held[0].board, held[1].board, 0];
+        let makers = [held[0].maker, held[1].maker, 0];
+        let both = |board: u32| makers.map(|maker| (board, maker));
+        let mut boots: Vec<(u32, u32)> = boards.into_iter().flat_map(both).collect();
+        boots.sort();
+        boots.dedup();
+        boots
+    }
+
+    /// Tells whether a boot of a volume that is cut after so many stores and mended gets what it is
+    /// owed: the values from before the change, those from after it, or none.
+    pub fn boots(
+        &self,
+        made: usize,
+        (board, maker): (u32, u32),
+        values: Option<[u16; VALUES]>,
+    ) -> Result<(), Broken> {
+        let owed = match made {
+            0 => values_for(&self.old, board, maker),
+            _ if made == self.stores.len() => values_for(&self.new, board, maker),
+            _ => None,
+        };
         promise(
-            standing.contents == owed,
-            "names, sizes or contents are not as promised",
+            values == owed,
+            "a boot gets others than the old values, the new ones or none",
         )
     }
 

@@ -17,4 +17,5 @@ pub use leftovers::{has_leftovers, leftovers, put_leftovers};
 pub use made::{File, Volume};
 pub(crate) use names::{change_case, not_allowed, similar};
 pub use padding::{padding, put_padding};
+pub(crate) use volume::set_bit;
 pub use volume::{any_volume, volume, volume_with_files, Shape};

@@ -231,6 +231,11 @@ fn draw(random: &mut Random, image: &mut [u8], blocks: usize, files: &[File]) {
     }
 }
 
+/// Sets the bit of a block in an image.
+pub(crate) fn set_bit(image: &mut [u8], block: u32) {
+    image[BLOCK_SIZE + map_byte(block as usize)] |= 1 << (block % 8);
+}
+
 /// The byte of the map that holds the bit of a block.
 pub(super) fn map_byte(block: usize) -> usize {
     4 * (block / 32) + 3 - block % 32 / 8

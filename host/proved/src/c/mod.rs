@@ -4,4 +4,5 @@
 
 pub mod romfs;
 pub mod tfs;
+pub mod timing;
 pub mod trace;

@@ -33,6 +33,22 @@ fn commands() -> Vec<Vec<Change<'static>>> {
     ]
 }
 
+const TRAINED: [u16; VALUES] = [0x1122; VALUES];
+const AGAIN: [u16; VALUES] = [0x3344; VALUES];
+
+/// What the commands on the timing file make, one after another.
+fn timing_commands() -> Vec<Change<'static>> {
+    vec![
+        Change::StoreTiming(7, 1, &TRAINED),
+        Change::StoreTiming(8, 2, &AGAIN),
+        Change::OpenLid,
+    ]
+}
+
+fn all_commands() -> impl Iterator<Item = Vec<Change<'static>>> {
+    commands().into_iter().chain([timing_commands()])
+}
+
 fn put(image: &mut [u8], number: u32, block: &[u8]) {
     image[BLOCK_SIZE * number as usize..][..BLOCK_SIZE].copy_from_slice(block);
 }
@@ -140,10 +156,39 @@ fn a_mend_is_one_store_of_the_map() {
     assert!(image == mended);
 }
 
+/// A boot after a cut and a mend gets the values of one store or none: seven stores are made, the
+/// first five by a create and a write.
+#[test]
+fn a_boot_after_a_cut_gets_no_mixture() {
+    let boots = |image: &[u8], board, maker| {
+        let booted = timing::boot(image, board, maker);
+        let refused = booted.answer.err().map(|refusal| refusal.number);
+        (refused, booted.values)
+    };
+    let none = |number| (Some(number), [0; VALUES]);
+    let expected = [
+        [none(13), none(13)],
+        [none(13), none(13)],
+        [none(13), none(13)],
+        [none(13), none(13)],
+        [none(34), none(34)],
+        [(None, TRAINED), none(36)],
+        [none(36), (None, AGAIN)],
+        [none(34), none(34)],
+    ];
+    for (count, expected) in expected.into_iter().enumerate() {
+        let (mut image, was_cut) = cut_after(&volume(), &timing_commands(), count);
+        assert_eq!(was_cut, count < 7);
+        tfs::mend(&mut image).unwrap();
+        let booted = [boots(&image, 7, 1), boots(&image, 8, 2)];
+        assert_eq!(booted, expected, "{count}");
+    }
+}
+
 #[test]
 fn memory_follows_the_stores() {
     let old = volume();
-    for changes in commands() {
+    for changes in all_commands() {
         let mut memory = old.clone();
         let mut image = old.clone();
         let stored = program(&mut memory, &changes, |number, block| {
@@ -167,6 +212,18 @@ fn nothing_is_stored_of_a_refused_change() {
     assert!(refused && stores == 0);
 }
 
+#[test]
+fn nothing_is_stored_of_a_refused_timing_file() {
+    for (change, number) in [
+        (Change::StoreTiming(0, 1, &TRAINED), 34),
+        (Change::OpenLid, 13),
+    ] {
+        let stored = program(&mut volume(), &[change], |_, _| panic!("a store"));
+        let refused = matches!(stored, Err(Trouble::Refused(refusal)) if refusal.number == number);
+        assert!(refused, "{number}");
+    }
+}
+
 /// A file that goes when the test ends.
 struct Kept(PathBuf);
 
@@ -182,7 +239,7 @@ impl Drop for Kept {
 fn the_file_holds_each_store_before_the_next() {
     let path = std::env::temp_dir().join(format!("tfs-stores-{}", std::process::id()));
     let kept = Kept(path);
-    for changes in commands() {
+    for changes in all_commands() {
         let mut old = volume();
         old.extend([0x77; 100]);
         fs::write(&kept.0, &old).unwrap();

@@ -1,0 +1,5 @@
+pub mod Told
+pub mod Bytes
+pub mod Rooms
+pub mod Looks
+pub mod Answers

@@ -1,0 +1,11 @@
+pub mod Form
+pub mod Verdicts
+pub mod Rules
+pub mod Changes
+pub mod Effects
+pub mod Unset
+pub mod Power
+pub mod Blocks
+pub mod Series
+pub mod Histories
+pub mod Proved

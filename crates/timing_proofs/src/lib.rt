@@ -1,0 +1,1 @@
+// Proofs of the statements of timing_spec: see specs/. No code.
