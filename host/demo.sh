@@ -1,20 +1,75 @@
 #!/usr/bin/env bash
 # Builds the proved libraries, the host programs and the C examples, then shows the main job on a sample volume.
+# Each step of the building says what it does and the seconds since the start; on a terminal the seconds run.
 set -euo pipefail
 cd "$(dirname "$0")/.."
 
-echo "Building (the proofs are checked first: some minutes on a fresh machine)"
-for library in tfs_c tfs_trace_c timing_c romfs_c; do
-    rt staticlib "$library" 2>&1 | tail -n 1
-done
-(cd host && cargo build --quiet --release --offline)
-for example in example timing; do
-    gcc -std=c99 -O2 -Iinclude "host/example/$example.c" -Ltarget/staticlib -ltiming_c -ltfs_trace_c -ltfs_c -lromfs_c \
-        -o "target/$example"
-done
-
+takes="about 6 minutes"
+libraries="tfs_c tfs_trace_c timing_c romfs_c"
+steps=6
+step=0
+clock=
 folder=$(mktemp -d)
-trap 'rm -rf "$folder"' EXIT
+trap 'stop_clock; rm -rf "$folder"' EXIT
+
+# Writes a line again each second, with the seconds since the start.
+run_clock() {
+    while kill -0 $$; do
+        printf '\r%s, %s s ' "$1" "$SECONDS"
+        sleep 1
+    done
+}
+
+stop_clock() {
+    [ -n "$clock" ] || return 0
+    kill "$clock"
+    wait "$clock" 2>/dev/null || true
+    clock=
+    printf '\r'
+}
+
+# A step: what it does, then the command. Its output is shown where it fails, which ends the script.
+step() {
+    local line status=0
+    step=$((step + 1))
+    line="Step $step of $steps: $1"
+    shift
+    if [ -t 1 ]; then
+        run_clock "$line" &
+        clock=$!
+    else
+        echo "$line, begun after $SECONDS s"
+    fi
+    ("$@") >"$folder/output" 2>&1 || status=$?
+    stop_clock
+    if [ $status != 0 ]; then
+        echo "$line, failed after $SECONDS s:"
+        cat "$folder/output"
+        exit $status
+    fi
+    echo "$line, done after $SECONDS s"
+}
+
+host_programs() {
+    cd host && cargo build --quiet --release --offline
+}
+
+example() {
+    gcc -std=c99 -O2 -Iinclude "host/example/$1.c" -Ltarget/staticlib -ltiming_c -ltfs_trace_c -ltfs_c -lromfs_c \
+        -o "target/$1"
+}
+
+examples() {
+    example example && example timing
+}
+
+echo "This takes $takes on a fresh machine, where the proofs are checked first, and seconds where all is built."
+for library in $libraries; do
+    step "the proved library $library" rt staticlib "$library"
+done
+step "the host programs" host_programs
+step "the C examples" examples
+
 tool=$PWD/host/target/release/tfs
 cd "$folder"
 

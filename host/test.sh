@@ -56,6 +56,8 @@ for name in tfs_c tfs_trace_c timing_c romfs_c; do
 done
 [ $failed = 0 ] || exit 1
 
+part "formatting" cargo fmt --all --check
+part "lints" cargo clippy --offline --workspace --all-targets -- -D warnings
 part "build" cargo build --release --offline
 part "tests" cargo test --offline --workspace --exclude program
 part "program replay" program

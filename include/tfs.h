@@ -3,13 +3,23 @@
  *
  * Every request takes the whole image as a pointer and a length, of any
  * content and any length, and answers by value. No allocation, no global
- * state, no recursion, under 4 KiB of stack as measured. The library needs
- * memcpy and memset, and uses SSE registers.
+ * state, no recursion, under 4 KiB of stack as measured. The library is
+ * libtfs_c.a; it needs memcpy and memset. tfs_common.h says for what machine and
+ * ABI it is.
+ *
+ * What a request costs: each but tfs_format does one check of the volume, and
+ * then its own work. The check reads blocks 0 to 2 and the inode block of each
+ * file, and no content: its time grows with the files and the blocks that they
+ * use, and by the map a little with the blocks of the volume. A read or a write
+ * moves its count of bytes, a create zeros its blocks, tfs_mend collects the
+ * used blocks once more where the check finds the map wrong; tfs_format sets
+ * blocks 0 to 2. Of a series of stores each one that is fetched costs a check.
  *
  * What the caller must keep to:
  *  - a pointer is valid for the length beside it: readable where it is const,
  *    readable and writable where it is not;
- *  - a pointer is not NULL; with length 0 it may be any other address;
+ *  - a pointer is not NULL; with length 0 it may be any other address
+ *    (tfs_common.h has one: TFS_NO_BYTES, TFS_NO_BUFFER);
  *  - the image, the name (or label), the bytes and the buffer of one call do
  *    not overlap;
  *  - nobody else writes to them during the call.
@@ -28,8 +38,7 @@
 #ifndef TFS_H
 #define TFS_H
 
-#include <stddef.h>
-#include <stdint.h>
+#include "tfs_common.h"
 
 #ifdef __cplusplus
 extern "C" {
@@ -86,22 +95,66 @@ typedef struct tfs_slot {
     uint8_t name[16];     /* the file's name up to its zero, padded with zeros; else zeros */
 } tfs_slot;
 
+/* The layout that the library has. */
+TFS_SIZE_IS(tfs_result, 16);
+TFS_FIELD_AT(tfs_result, refusal, 0);
+TFS_FIELD_AT(tfs_result, place, 4);
+TFS_FIELD_AT(tfs_result, value, 8);
+TFS_FIELD_AT(tfs_result, blocks, 12);
+TFS_SIZE_IS(tfs_slot, 40);
+TFS_FIELD_AT(tfs_slot, refusal, 0);
+TFS_FIELD_AT(tfs_slot, place, 4);
+TFS_FIELD_AT(tfs_slot, used, 8);
+TFS_FIELD_AT(tfs_slot, inode, 12);
+TFS_FIELD_AT(tfs_slot, size, 16);
+TFS_FIELD_AT(tfs_slot, name_length, 20);
+TFS_FIELD_AT(tfs_slot, name, 24);
+
+/* The text of a refusal, on one line and without its place; of a number that is
+ * none, that it is unknown. */
+TFS_INLINE const char *tfs_refusal_text(uint32_t refusal)
+{
+    switch (refusal) {
+    case TFS_OK: return "granted";
+    case TFS_IMAGE_TOO_SHORT: return "the image is under 1,536 bytes";
+    case TFS_BAD_MAGIC: return "the image does not begin with the magic number of TFS";
+    case TFS_BAD_LABEL: return "the volume's name has no zero in its 16 bytes";
+    case TFS_BAD_SLOT: return "a slot is neither free nor used, or repeats the name of a lower slot";
+    case TFS_BAD_INODE: return "a file has an inode with a size or a block number out of range";
+    case TFS_BLOCK_TWICE: return "a block is claimed twice";
+    case TFS_MAP_WRONG: return "a block has a map bit that differs from its use";
+    case TFS_NAME_NOT_ALLOWED: return "the name is empty, over 15 bytes, or holds a zero byte";
+    case TFS_SIZE_TOO_LARGE: return "the size is over 65,024 bytes";
+    case TFS_NAME_EXISTS: return "a file has this name already";
+    case TFS_NO_FREE_SLOT: return "there is no free slot";
+    case TFS_NO_ROOM: return "there are too few free blocks";
+    case TFS_NO_SUCH_NAME: return "no file has this name";
+    case TFS_NO_SUCH_SLOT: return "the slot is over 24";
+    case TFS_OFFSET_PAST_END: return "the offset is greater than the file's size";
+    case TFS_NO_SUCH_STORE: return "there is no such store, or the buffer is under 512 bytes";
+    default: return "unknown refusal";
+    }
+}
+
 /* Makes an empty volume, whatever the image held. The label may be empty.
  * Zeros blocks 0 to 2 and leaves the later blocks. Refusals: 1, 8. */
-tfs_result tfs_format(uint8_t *image, size_t image_length, const uint8_t *label, size_t label_length);
+TFS_MUST_USE tfs_result tfs_format(uint8_t *TFS_RESTRICT image, size_t image_length,
+                                   const uint8_t *TFS_RESTRICT label, size_t label_length);
 
 /* Checks the volume. Every request below but tfs_mend does this first and
  * gives the refusal of the check. Refusals: 1 to 7. */
-tfs_result tfs_check(const uint8_t *image, size_t image_length);
+TFS_MUST_USE tfs_result tfs_check(const uint8_t *image, size_t image_length);
 
 /* Creates a file of this size, all zeros, and gives its inode number, which
  * tfs_list shows too. No request takes it, and after a remove or a format it
  * may be another file's. The size is fixed from then on.
  * Refusals: 8 to 12, in this order. */
-tfs_result tfs_create(uint8_t *image, size_t image_length, const uint8_t *name, size_t name_length, uint32_t size);
+TFS_MUST_USE tfs_result tfs_create(uint8_t *TFS_RESTRICT image, size_t image_length, const uint8_t *TFS_RESTRICT name,
+                                   size_t name_length, uint32_t size);
 
 /* Removes a file. Refusals: 8, 13. */
-tfs_result tfs_remove(uint8_t *image, size_t image_length, const uint8_t *name, size_t name_length);
+TFS_MUST_USE tfs_result tfs_remove(uint8_t *TFS_RESTRICT image, size_t image_length, const uint8_t *TFS_RESTRICT name,
+                                   size_t name_length);
 
 /* Reads the file that has this name now, from the offset on, into the buffer,
  * and gives the count: the buffer's length, or fewer at the file's end, 0 where
@@ -109,21 +162,23 @@ tfs_result tfs_remove(uint8_t *image, size_t image_length, const uint8_t *name, 
  * gives in how many of the file's content blocks these bytes lie: 0 for a count
  * of 0, else 1 to (count + 510) / 512 + 1.
  * Refusals: 8, 13, 15, in this order. */
-tfs_result tfs_read(const uint8_t *image, size_t image_length, const uint8_t *name, size_t name_length,
-                    uint32_t offset, uint8_t *buffer, size_t buffer_length);
+TFS_MUST_USE tfs_result tfs_read(const uint8_t *TFS_RESTRICT image, size_t image_length,
+                                 const uint8_t *TFS_RESTRICT name, size_t name_length, uint32_t offset,
+                                 uint8_t *TFS_RESTRICT buffer, size_t buffer_length);
 
 /* Writes the buffer into the file that has this name now, from the offset on,
  * and gives the count: the buffer's length, or fewer at the file's end, 0 where
  * the offset equals the size; and `blocks`, as tfs_read does.
  * Refusals: 8, 13, 15, in this order. */
-tfs_result tfs_write(uint8_t *image, size_t image_length, const uint8_t *name, size_t name_length, uint32_t offset,
-                     const uint8_t *buffer, size_t buffer_length);
+TFS_MUST_USE tfs_result tfs_write(uint8_t *TFS_RESTRICT image, size_t image_length, const uint8_t *TFS_RESTRICT name,
+                                  size_t name_length, uint32_t offset, const uint8_t *TFS_RESTRICT buffer,
+                                  size_t buffer_length);
 
 /* Gives what stands in a slot, 0 to 24. Refusal: 14. */
-tfs_slot tfs_list(const uint8_t *image, size_t image_length, uint32_t slot);
+TFS_MUST_USE tfs_slot tfs_list(const uint8_t *image, size_t image_length, uint32_t slot);
 
 /* Gives the free bytes: 512 for each free block. */
-tfs_result tfs_free_bytes(const uint8_t *image, size_t image_length);
+TFS_MUST_USE tfs_result tfs_free_bytes(const uint8_t *image, size_t image_length);
 
 /* ---- A volume on a memory chip, whose power may be taken at any moment
  *
@@ -138,7 +193,7 @@ tfs_result tfs_free_bytes(const uint8_t *image, size_t image_length);
  *         if (store.refusal != TFS_OK) return store.refusal;       (refused: nothing is stored)
  *         program_block(store.value, block);                       (waits until it has been stored)
  *     }
- *     tfs_create(image, length, name, name_length, size);          (the copy follows)
+ *     return tfs_create(image, length, name, name_length, size).refusal;   (the copy follows)
  *
  * Every k is fetched from the same image, as it was before the request. A
  * create has a store for each content block and 3 more, a remove has 2, a write
@@ -155,26 +210,29 @@ tfs_result tfs_free_bytes(const uint8_t *image, size_t image_length);
 
 /* Gives the k-th store of tfs_create: the content blocks in the file's order,
  * then inode, map and directory. Refusals: those of tfs_create, then 32. */
-tfs_result tfs_create_store(const uint8_t *image, size_t image_length, const uint8_t *name, size_t name_length,
-                            uint32_t size, size_t k, uint8_t *buffer, size_t buffer_length);
+TFS_MUST_USE tfs_result tfs_create_store(const uint8_t *TFS_RESTRICT image, size_t image_length,
+                                         const uint8_t *TFS_RESTRICT name, size_t name_length, uint32_t size,
+                                         size_t k, uint8_t *TFS_RESTRICT buffer, size_t buffer_length);
 
 /* Gives the k-th store of tfs_remove: directory, map. Refusals: those of
  * tfs_remove, then 32. */
-tfs_result tfs_remove_store(const uint8_t *image, size_t image_length, const uint8_t *name, size_t name_length,
-                            size_t k, uint8_t *buffer, size_t buffer_length);
+TFS_MUST_USE tfs_result tfs_remove_store(const uint8_t *TFS_RESTRICT image, size_t image_length,
+                                         const uint8_t *TFS_RESTRICT name, size_t name_length, size_t k,
+                                         uint8_t *TFS_RESTRICT buffer, size_t buffer_length);
 
 /* Gives the k-th store of tfs_write of these bytes: each content block in which
  * they lie, in the file's order. Refusals: those of tfs_write, then 32. */
-tfs_result tfs_write_store(const uint8_t *image, size_t image_length, const uint8_t *name, size_t name_length,
-                           uint32_t offset, const uint8_t *bytes, size_t bytes_length, size_t k, uint8_t *buffer,
-                           size_t buffer_length);
+TFS_MUST_USE tfs_result tfs_write_store(const uint8_t *TFS_RESTRICT image, size_t image_length,
+                                        const uint8_t *TFS_RESTRICT name, size_t name_length, uint32_t offset,
+                                        const uint8_t *TFS_RESTRICT bytes, size_t bytes_length, size_t k,
+                                        uint8_t *TFS_RESTRICT buffer, size_t buffer_length);
 
 /* Clears the set bits of the map, of blocks from 3 on in the volume, that no
  * file claims, and no others; of a consistent volume it changes nothing. Refuses
  * the first other fault as tfs_check does, and then changes nothing: a block
  * that is claimed and not set is 7, whatever bits stand before it. It changes no
  * byte outside block 1. Refusals: 1 to 7. */
-tfs_result tfs_mend(uint8_t *image, size_t image_length);
+TFS_MUST_USE tfs_result tfs_mend(uint8_t *image, size_t image_length);
 
 #ifdef __cplusplus
 }

@@ -21,13 +21,17 @@
  * content of every buffer. No allocation, no global state; reading copies no
  * name and no bytes; recursion over the at most five groups of a number only,
  * under 4 KiB of stack as measured. The library is libtfs_trace_c.a; it needs
- * memset, and uses SSE registers.
+ * memset. tfs_common.h says for what machine and ABI it is.
+ *
+ * What a request costs: tfs_trace_read looks at the numbers of one record,
+ * tfs_trace_write copies its name and its bytes. tfs_replay does one check of
+ * the volume (tfs.h), before the first record, and then the work of each
+ * request without a check of its own.
  */
 #ifndef TFS_TRACE_H
 #define TFS_TRACE_H
 
-#include <stddef.h>
-#include <stdint.h>
+#include "tfs.h"
 
 #ifdef __cplusplus
 extern "C" {
@@ -87,17 +91,52 @@ typedef struct tfs_replayed {
     uint64_t place;   /* as in tfs_result */
 } tfs_replayed;
 
+/* The layout that the library has. */
+TFS_SIZE_IS(tfs_entry, 48);
+TFS_FIELD_AT(tfs_entry, kind, 0);
+TFS_FIELD_AT(tfs_entry, size, 8);
+TFS_FIELD_AT(tfs_entry, offset, 16);
+TFS_FIELD_AT(tfs_entry, length, 24);
+TFS_FIELD_AT(tfs_entry, refusal, 32);
+TFS_FIELD_AT(tfs_entry, value, 40);
+TFS_SIZE_IS(tfs_record, 88);
+TFS_FIELD_AT(tfs_record, entry, 0);
+TFS_FIELD_AT(tfs_record, name_at, 48);
+TFS_FIELD_AT(tfs_record, name_length, 56);
+TFS_FIELD_AT(tfs_record, bytes_at, 64);
+TFS_FIELD_AT(tfs_record, bytes_length, 72);
+TFS_FIELD_AT(tfs_record, next, 80);
+TFS_SIZE_IS(tfs_written, 16);
+TFS_FIELD_AT(tfs_written, refusal, 0);
+TFS_FIELD_AT(tfs_written, length, 8);
+TFS_SIZE_IS(tfs_replayed, 32);
+TFS_FIELD_AT(tfs_replayed, outcome, 0);
+TFS_FIELD_AT(tfs_replayed, number, 8);
+TFS_FIELD_AT(tfs_replayed, refusal, 16);
+TFS_FIELD_AT(tfs_replayed, place, 24);
+
+/* The text of a refusal of any answer or record here, as tfs_refusal_text. */
+TFS_INLINE const char *tfs_trace_refusal_text(uint64_t refusal)
+{
+    uint32_t number = refusal & 0xFFFFFFFFu;
+
+    if (refusal == TFS_RECORD_NOT_WRITTEN)
+        return "the record has no room, or its kind, a number or a length is out of range";
+    return number == refusal ? tfs_refusal_text(number) : "unknown refusal";
+}
+
 /* Reads the record at a position of the trace. At the end and past it there is
  * none: malformed. Where it is malformed every field is 0. */
-tfs_record tfs_trace_read(const uint8_t *trace, size_t trace_length, size_t at);
+TFS_MUST_USE tfs_record tfs_trace_read(const uint8_t *trace, size_t trace_length, size_t at);
 
 /* Writes a record to the start of a buffer and gives its length; the rest of
  * the buffer stays. The bytes are those of a write, or those that a granted
  * read gave; a name or bytes that the record does not have are ignored.
  * Refusal 33, and nothing written: the buffer is too short for the record, a
  * number of it or a length is 2^32 or more, or the kind is none of 1 to 5. */
-tfs_written tfs_trace_write(uint8_t *out, size_t out_length, tfs_entry entry, const uint8_t *name,
-                            size_t name_length, const uint8_t *bytes, size_t bytes_length);
+TFS_MUST_USE tfs_written tfs_trace_write(uint8_t *TFS_RESTRICT out, size_t out_length, tfs_entry entry,
+                                         const uint8_t *TFS_RESTRICT name, size_t name_length,
+                                         const uint8_t *TFS_RESTRICT bytes, size_t bytes_length);
 
 /* Replays a trace on the volume: its requests one after another, until the end,
  * or until a record is malformed or a request answers otherwise than expected.
@@ -105,7 +144,8 @@ tfs_written tfs_trace_write(uint8_t *out, size_t out_length, tfs_entry entry, co
  * inode number and number of blocks do not count. A request that answered
  * otherwise has had its effect, a malformed record has none. The volume is
  * checked once, before the first record; refused, nothing has changed. */
-tfs_replayed tfs_replay(uint8_t *image, size_t image_length, const uint8_t *trace, size_t trace_length);
+TFS_MUST_USE tfs_replayed tfs_replay(uint8_t *TFS_RESTRICT image, size_t image_length,
+                                     const uint8_t *TFS_RESTRICT trace, size_t trace_length);
 
 #ifdef __cplusplus
 }

@@ -19,17 +19,21 @@
  * What the caller must keep to is what tfs.h says: pointers are valid for the
  * length beside them, or for 28 values (and then aligned for uint16_t), and not
  * NULL, what one call is lent does not overlap, and nobody else writes to it
- * during the call. Nothing else is asked: each request has a defined answer for every value of every number
- * and every content of the image and the buffer. A refused request changes no
- * byte of the image or of the buffer. No allocation, no global state, no
- * recursion, under 4 KiB of stack as measured. The library is libtiming_c.a;
- * it needs memset, and uses SSE registers.
+ * during the call. Nothing else is asked: each request has a defined answer for
+ * every value of every number and every content of the image and the buffer. A
+ * refused request changes no byte of the image or of the buffer. No allocation,
+ * no global state, no recursion, under 4 KiB of stack as measured. The library
+ * is libtiming_c.a; it needs memset. tfs_common.h says for what machine and ABI
+ * it is.
+ *
+ * What a granted request costs, in checks of the volume (tfs.h), beside which its
+ * own work is small: a boot one; an opening, and each block fetched of a series,
+ * two; a store two, or three where it creates the file.
  */
 #ifndef TIMING_H
 #define TIMING_H
 
-#include <stddef.h>
-#include <stdint.h>
+#include "tfs.h"
 
 #ifdef __cplusplus
 extern "C" {
@@ -62,19 +66,42 @@ typedef struct timing_booted {
     uint16_t values[TIMING_VALUES]; /* those of the file where the boot is granted, else zeros */
 } timing_booted;
 
+/* The layout that the library has. */
+TFS_SIZE_IS(timing_result, 12);
+TFS_FIELD_AT(timing_result, refusal, 0);
+TFS_FIELD_AT(timing_result, place, 4);
+TFS_FIELD_AT(timing_result, value, 8);
+TFS_SIZE_IS(timing_booted, 64);
+TFS_FIELD_AT(timing_booted, refusal, 0);
+TFS_FIELD_AT(timing_booted, place, 4);
+TFS_FIELD_AT(timing_booted, values, 8);
+
+/* The text of a refusal of any answer here, as tfs_refusal_text. */
+TFS_INLINE const char *timing_refusal_text(uint32_t refusal)
+{
+    switch (refusal) {
+    case TFS_NO_SUCH_NAME: return "there is no timing file";
+    case TIMING_NO_BOARD: return "board number 0: none was given, or the timing file has no values";
+    case TIMING_WRONG_SIZE: return "the timing file has another size than 64 bytes";
+    case TIMING_OTHER_BOARD: return "the timing file is another board's";
+    case TIMING_OTHER_MAKER: return "the timing file is another memory maker's";
+    default: return tfs_refusal_text(refusal);
+    }
+}
+
 /* Stores the numbers and the values, and creates the file if it is absent: then
  * it holds exactly these. Refusals: 34, 35, and if the file is to be created 11
  * and 12, in this order. */
-timing_result timing_store(uint8_t *image, size_t image_length, uint32_t board, uint32_t maker,
-                           const uint16_t values[TIMING_VALUES]);
+TFS_MUST_USE timing_result timing_store(uint8_t *TFS_RESTRICT image, size_t image_length, uint32_t board,
+                                        uint32_t maker, const uint16_t values[TIMING_VALUES]);
 
 /* Notes that the lid was opened: the board number in the file becomes 0, its
  * other 60 bytes stay. Refusals: 13, 35, in this order. */
-timing_result timing_open_lid(uint8_t *image, size_t image_length);
+TFS_MUST_USE timing_result timing_open_lid(uint8_t *image, size_t image_length);
 
 /* Gives the values, if the file stands, has 64 bytes, its board number is not 0
  * and both numbers are these. Refusals: 13, 35, 34, 36, 37, in this order. */
-timing_booted timing_boot(const uint8_t *image, size_t image_length, uint32_t board, uint32_t maker);
+TFS_MUST_USE timing_booted timing_boot(const uint8_t *image, size_t image_length, uint32_t board, uint32_t maker);
 
 /* ---- A volume on a memory chip, whose power may be taken at any moment
  *
@@ -95,14 +122,14 @@ timing_booted timing_boot(const uint8_t *image, size_t image_length, uint32_t bo
 
 /* Gives the k-th store of timing_store: the four of the create, if the file is
  * absent, then that of its content. Refusals: those of timing_store, then 32. */
-timing_result timing_store_block(const uint8_t *image, size_t image_length, uint32_t board, uint32_t maker,
-                                 const uint16_t values[TIMING_VALUES], size_t k, uint8_t *buffer,
-                                 size_t buffer_length);
+TFS_MUST_USE timing_result timing_store_block(const uint8_t *TFS_RESTRICT image, size_t image_length, uint32_t board,
+                                              uint32_t maker, const uint16_t values[TIMING_VALUES], size_t k,
+                                              uint8_t *TFS_RESTRICT buffer, size_t buffer_length);
 
 /* Gives the k-th store of timing_open_lid. Refusals: those of timing_open_lid,
  * then 32. */
-timing_result timing_open_lid_block(const uint8_t *image, size_t image_length, size_t k, uint8_t *buffer,
-                                    size_t buffer_length);
+TFS_MUST_USE timing_result timing_open_lid_block(const uint8_t *TFS_RESTRICT image, size_t image_length, size_t k,
+                                                 uint8_t *TFS_RESTRICT buffer, size_t buffer_length);
 
 #ifdef __cplusplus
 }

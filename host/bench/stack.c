@@ -68,14 +68,23 @@ static void make_rom(void)
     seal(rom, sizeof rom);
 }
 
+/* Ends the program where what is measured cannot be made. */
+static void must_be_granted(uint32_t refusal)
+{
+    if (refusal == TFS_OK)
+        return;
+    fprintf(stderr, "stack: %s\n", tfs_refusal_text(refusal));
+    exit(2);
+}
+
 /* As many files of the largest size as there are slots, but for one. */
 static void make_volume(void)
 {
     uint8_t name = 'A';
 
-    tfs_format(image, VOLUME, file, 1);
+    must_be_granted(tfs_format(image, VOLUME, file, 1).refusal);
     for (unsigned i = 0; i + 1 < TFS_SLOTS; i++, name++)
-        tfs_create(image, VOLUME, &name, 1, TFS_MAX_FILE);
+        must_be_granted(tfs_create(image, VOLUME, &name, 1, TFS_MAX_FILE).refusal);
 }
 
 /* Adds a record to the trace. */

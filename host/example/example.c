@@ -10,21 +10,17 @@
 
 #define TEXT(s) (const uint8_t *)(s), strlen(s)
 
-/* The refusals that this program meets, in words. */
+/* The number and the text of a refusal, of a TFS volume with the slot or block at fault, if it has one. */
 static void say_refusal(uint32_t refusal, uint32_t place)
 {
-    unsigned long p = place;
+    int of_rom = refusal >= ROMFS_TOO_SHORT && refusal <= ROMFS_NO_SUCH_HEADER;
 
-    printf("refused %lu: ", (unsigned long)refusal);
-    switch (refusal) {
-    case TFS_BAD_MAGIC: printf("wrong magic number\n"); break;
-    case TFS_BLOCK_TWICE: printf("block %lu is claimed twice\n", p); break;
-    case TFS_MAP_WRONG: printf("the map is wrong at block %lu\n", p); break;
-    case TFS_NAME_EXISTS: printf("the name stands already\n"); break;
-    case TFS_NO_SUCH_NAME: printf("no file of that name\n"); break;
-    case ROMFS_BAD_VOLUME_SUM: printf("wrong checksum of the volume\n"); break;
-    default: printf("place %lu\n", p);
-    }
+    printf("refused %lu: %s", (unsigned long)refusal, of_rom ? romfs_refusal_text(refusal) : tfs_refusal_text(refusal));
+    if (refusal == TFS_BAD_SLOT || refusal == TFS_BAD_INODE)
+        printf(" (slot %lu)", (unsigned long)place);
+    if (refusal == TFS_BLOCK_TWICE || refusal == TFS_MAP_WRONG)
+        printf(" (block %lu)", (unsigned long)place);
+    printf("\n");
 }
 
 /* An answer with a value. */
@@ -141,7 +137,7 @@ static void create_on_chip(chip *to, uint8_t *image, size_t length, const char *
         printf(" %lu", (unsigned long)store.value);
     }
     printf("\n");
-    tfs_create(image, length, TEXT(name), size);
+    done("the same create in memory", tfs_create(image, length, TEXT(name), size));
 }
 
 /* After power-up the chip is read and checked; where only the map has bits of a file that is not there, they go. */
@@ -169,7 +165,7 @@ static void use_chip(void)
     static chip flash;
     static uint8_t image[sizeof flash.bytes];
 
-    tfs_format(flash.bytes, sizeof flash.bytes, TEXT("CHIP"));
+    done("format of a volume without a label", tfs_format(flash.bytes, sizeof flash.bytes, TFS_NO_BYTES, 0));
     memcpy(image, flash.bytes, sizeof image);
     flash.stores_left = 4;
     create_on_chip(&flash, image, sizeof image, "TIMING", 1000);
@@ -197,15 +193,15 @@ static void use_name_again(uint8_t *image, size_t length)
 /* Writes a request and its answer behind the records of a trace, and gives the trace's new length. Ends the program if
  * the record does not fit: a trace without it could not be replayed. */
 static size_t record(uint8_t *trace, size_t length, size_t room, tfs_entry entry, tfs_result answer, const char *name,
-                     const char *bytes)
+                     const uint8_t *bytes, size_t bytes_length)
 {
     tfs_written written;
 
     entry.refusal = answer.refusal;
     entry.value = answer.value;
-    written = tfs_trace_write(trace + length, room - length, entry, TEXT(name), TEXT(bytes));
+    written = tfs_trace_write(trace + length, room - length, entry, TEXT(name), bytes, bytes_length);
     if (written.refusal != 0) {
-        fprintf(stderr, "record not written: refused %lu\n", (unsigned long)written.refusal);
+        fprintf(stderr, "refused %lu: %s\n", (unsigned long)written.refusal, tfs_trace_refusal_text(written.refusal));
         exit(EXIT_FAILURE);
     }
     return length + (size_t)written.length;
@@ -231,11 +227,11 @@ static size_t record_two(uint8_t *image, size_t length, uint8_t *trace, size_t r
     create.kind = TFS_CREATE;
     create.size = 4;
     answer = tfs_create(image, length, TEXT("LOG"), 4);
-    end = record(trace, 0, room, create, answer, "LOG", "");
+    end = record(trace, 0, room, create, answer, "LOG", TFS_NO_BYTES, 0);
     write.kind = TFS_WRITE;
     write.offset = 2;
     answer = tfs_write(image, length, TEXT("LOG"), 2, TEXT("on/off"));
-    return record(trace, end, room, write, answer, "LOG", "on/off");
+    return record(trace, end, room, write, answer, "LOG", TEXT("on/off"));
 }
 
 /* They are replayed on the volume as it was before them, and as it is after. */
@@ -289,6 +285,7 @@ int main(void)
 {
     static uint8_t image[65536];
 
+    printf("headers of version %s\n", TFS_VERSION);
     use_volume(image, sizeof image);
     damage_volume(image, sizeof image);
     use_name_again(image, sizeof image);

@@ -1,6 +1,7 @@
 /* A pump's life with its timing file: the memory is trained once, each boot takes the values that are stored, and after
  * the lid was opened, or on another board, it takes none. Then the same on a chip whose power is taken. */
 #include <stdio.h>
+#include <stdlib.h>
 #include <string.h>
 
 #include "tfs.h"
@@ -14,26 +15,21 @@
 
 /* ---- What the pump does */
 
-/* The refusals that this program meets, in words. */
-static const char *words(uint32_t refusal)
-{
-    switch (refusal) {
-    case TFS_OK: return "done";
-    case TFS_NO_SUCH_NAME: return "there is no timing file";
-    case TIMING_NO_BOARD: return "board number 0";
-    case TIMING_WRONG_SIZE: return "the timing file has another size";
-    case TIMING_OTHER_BOARD: return "another board's values";
-    case TIMING_OTHER_MAKER: return "another maker's values";
-    default: return "another reason";
-    }
-}
-
 static void say(const char *request, uint32_t refusal)
 {
     printf("%s: ", request);
     if (refusal != TFS_OK)
         printf("refused %lu, ", (unsigned long)refusal);
-    printf("%s\n", words(refusal));
+    printf("%s\n", timing_refusal_text(refusal));
+}
+
+/* Ends the program where a request is refused that cannot be. */
+static void must_be_granted(uint32_t refusal)
+{
+    if (refusal == TFS_OK)
+        return;
+    fprintf(stderr, "refused %lu, %s\n", (unsigned long)refusal, timing_refusal_text(refusal));
+    exit(EXIT_FAILURE);
 }
 
 /* Stands for the training, which takes long: values that differ each time. */
@@ -65,7 +61,7 @@ static void boot(const uint8_t *image, uint32_t board, uint32_t maker)
     if (booted.refusal == TFS_OK)
         say_values(booted.values);
     else
-        printf("refused %lu, %s\n", (unsigned long)booted.refusal, words(booted.refusal));
+        printf("refused %lu, %s\n", (unsigned long)booted.refusal, timing_refusal_text(booted.refusal));
 }
 
 /* One board from its first boot on, and what another one gets of its volume. */
@@ -92,8 +88,8 @@ static void meet_another_file(uint8_t *image)
 {
     uint16_t values[TIMING_VALUES] = {0};
 
-    tfs_remove(image, VOLUME, TEXT(TIMING_FILE));
-    tfs_create(image, VOLUME, TEXT(TIMING_FILE), 1000);
+    must_be_granted(tfs_remove(image, VOLUME, TEXT(TIMING_FILE)).refusal);
+    must_be_granted(tfs_create(image, VOLUME, TEXT(TIMING_FILE), 1000).refusal);
     boot(image, BOARD, MAKER);
     say("store", timing_store(image, VOLUME, BOARD, MAKER, values).refusal);
     say("open lid", timing_open_lid(image, VOLUME).refusal);
@@ -131,7 +127,7 @@ static void store_on_chip(chip *to, uint8_t *image, const uint16_t values[TIMING
         if (store.refusal != TFS_OK || !program_block(to, store.value, block))
             return;
     }
-    timing_store(image, VOLUME, BOARD, MAKER, values);
+    must_be_granted(timing_store(image, VOLUME, BOARD, MAKER, values).refusal);
 }
 
 /* The same of opening the lid, which is one store. */
@@ -141,7 +137,7 @@ static void open_lid_on_chip(chip *to, uint8_t *image)
     timing_result store = timing_open_lid_block(image, VOLUME, 1, block, sizeof block);
 
     if (store.refusal == TFS_OK && program_block(to, store.value, block))
-        timing_open_lid(image, VOLUME);
+        must_be_granted(timing_open_lid(image, VOLUME).refusal);
 }
 
 /* After power-up the chip is read and checked, and mended where only the map is wrong. */
@@ -188,10 +184,10 @@ static void use_chip(void)
     static chip flash;
     uint16_t values[TIMING_VALUES];
 
-    tfs_format(flash.bytes, VOLUME, TEXT("CHIP"));
+    must_be_granted(tfs_format(flash.bytes, VOLUME, TFS_NO_BYTES, 0).refusal);
     train(values);
     cut_everywhere(&flash, 5, values);
-    timing_store(flash.bytes, VOLUME, BOARD, MAKER, values);
+    must_be_granted(timing_store(flash.bytes, VOLUME, BOARD, MAKER, values).refusal);
     train(values);
     cut_everywhere(&flash, 1, values);
     cut_everywhere(&flash, 1, NULL);

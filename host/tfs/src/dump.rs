@@ -1,10 +1,12 @@
 //! Bytes of a volume in hex and their meaning, as this tool reads them, sound or damaged.
 
+mod members;
 mod slot;
 
-use crate::arguments::number;
 use crate::failure::{Failure, Outcome};
-use crate::image::Image;
+use crate::image::{Image, LONGEST_VOLUME};
+use crate::numbers::number;
+use crate::report::Form;
 use crate::volume::SLOTS;
 use crate::words;
 use std::ffi::OsStr;
@@ -31,15 +33,27 @@ pub enum Part {
 impl Part {
     /// The part that words ask for.
     pub fn asked(word: &OsStr, count: Option<&OsStr>) -> Result<Self, Failure> {
-        let part = match (word.to_str(), count.map(number)) {
-            (Some("header"), None) => Some(Self::Header),
-            (Some("map"), None) => Some(Self::Map),
-            (Some("slot"), Some(Some(slot))) if slot < SLOTS => Some(Self::Slot(slot)),
-            (Some("inode"), Some(Some(block))) => Some(Self::Inode(block)),
-            _ => None,
+        let part = match (word.to_str(), count) {
+            (Some("header"), None) => Ok(Self::Header),
+            (Some("map"), None) => Ok(Self::Map),
+            (Some("slot"), Some(count)) => number(count).and_then(Self::slot),
+            (Some("inode"), Some(count)) => number(count).map(Self::Inode),
+            (Some(part @ ("header" | "map")), Some(_)) => Err(format!("{part} has no number")),
+            (Some(part @ ("slot" | "inode")), None) => Err(format!("{part} needs a number")),
+            _ => {
+                let parts = "there are header, map, slot N, inode N";
+                Err(format!("{}: no such part; {parts}", word.display()))
+            }
         };
-        let wanted = "dump: header, map, slot N (0 to 24) or inode N (a block) is needed";
-        part.ok_or_else(|| Failure::Usage(wanted.to_string()))
+        part.map_err(|why| Failure::Usage(format!("dump: {why}")))
+    }
+
+    fn slot(number: u32) -> Result<Self, String> {
+        let last = SLOTS - 1;
+        match number {
+            0..SLOTS => Ok(Self::Slot(number)),
+            _ => Err(format!("there is no slot {number}, the last is {last}")),
+        }
     }
 
     /// Where the part lies.
@@ -60,7 +74,7 @@ impl Part {
 
     /// What the part means in an image that has all of it.
     fn meaning(self, image: &[u8]) -> String {
-        let blocks = (image.len() / BLOCK).min(MOST_BLOCKS) as u32;
+        let blocks = blocks_of(image);
         let bytes = &image[self.range()];
         match self {
             Self::Header => header(bytes, blocks),
@@ -72,24 +86,30 @@ impl Part {
 }
 
 /// Shows a part of a volume.
-pub fn dump(path: &Path, part: Part) -> Outcome {
+pub fn dump(path: &Path, part: Part, form: Form) -> Outcome {
     let image = Image::load_volume(path)?;
     let (range, length) = (part.range(), image.bytes.len());
     let bytes = image.bytes.get(range.start..range.end.min(length));
     let bytes = bytes.unwrap_or_default();
     if bytes.is_empty() {
         let start = range.start;
+        let ends = match length {
+            LONGEST_VOLUME => "as a volume ends",
+            _ => "ends",
+        };
         return Err(image.unread(format!(
-            "ends at byte {length}, that part begins at {start}"
+            "{ends} at byte {length}, that part begins at {start}"
         )));
     }
-    let meaning = if bytes.len() < range.len() {
-        format!("cut off: the image ends at byte {length}\n")
-    } else {
-        part.meaning(&image.bytes)
+    let cut_off = bytes.len() < range.len();
+    let meaning = || match cut_off {
+        true => format!("cut off: the image ends at byte {length}\n"),
+        false => part.meaning(&image.bytes),
     };
-    let text = [NOTE, &hex(range.start, bytes), &meaning].concat();
-    Ok(text.into_bytes())
+    Ok(form.told(
+        || [NOTE, &hex(range.start, bytes), &meaning()].concat(),
+        || members::of(part, &image.bytes, bytes, cut_off),
+    ))
 }
 
 /// Lines of 16 bytes with their offset; a run of equal lines is shown by its first and a star.
@@ -110,6 +130,11 @@ fn hex(start: usize, bytes: &[u8]) -> String {
         before = Some(line);
     }
     text
+}
+
+/// The number of blocks of a volume.
+fn blocks_of(image: &[u8]) -> u32 {
+    (image.len() / BLOCK).min(MOST_BLOCKS) as u32
 }
 
 fn header(bytes: &[u8], blocks: u32) -> String {
@@ -133,7 +158,7 @@ fn inode(bytes: &[u8], blocks: u32) -> String {
     } else {
         ""
     };
-    let used = (size.div_ceil(BLOCK as u32) as usize).min(BLOCK / 4 - 1);
+    let used = content_blocks(size);
     let mut text = format!("size: {size}{too_large}\n");
     for index in 0..BLOCK / 4 - 1 {
         let block = word(bytes, index + 1);
@@ -150,12 +175,20 @@ fn inode(bytes: &[u8], blocks: u32) -> String {
     text
 }
 
+/// The number of block numbers that an inode uses for a size.
+fn content_blocks(size: u32) -> usize {
+    (size.div_ceil(BLOCK as u32) as usize).min(BLOCK / 4 - 1)
+}
+
+/// The reserved and the free blocks of a map, and how many bits are set past the volume.
+fn sorted(bytes: &[u8], blocks: u32) -> (Vec<u32>, Vec<u32>, usize) {
+    let (reserved, free) = (0..blocks).partition(|&block| bit(bytes, block));
+    let past = (blocks..MOST_BLOCKS as u32).filter(|&block| bit(bytes, block));
+    (reserved, free, past.count())
+}
+
 fn map(bytes: &[u8], blocks: u32) -> String {
-    let reserved: Vec<u32> = (0..blocks).filter(|&block| bit(bytes, block)).collect();
-    let free: Vec<u32> = (0..blocks).filter(|&block| !bit(bytes, block)).collect();
-    let past = (blocks..MOST_BLOCKS as u32)
-        .filter(|&block| bit(bytes, block))
-        .count();
+    let (reserved, free, past) = sorted(bytes, blocks);
     format!(
         "reserved: {}: {}\nfree: {}: {}\nset past the volume's {blocks} blocks, ignored: {past}\n",
         reserved.len(),

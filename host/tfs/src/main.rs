@@ -6,28 +6,42 @@
 
 mod arguments;
 mod commands;
+mod contents;
 mod dump;
+mod escapes;
+mod extracted;
 mod failure;
 mod files;
 mod image;
+mod json;
+mod nearest;
+mod numbers;
+mod progress;
+mod report;
 mod rom;
 mod stores;
+mod survey;
 mod timing;
 mod trace;
+mod view;
 mod volume;
 mod words;
 
-use std::io::Write;
+use failure::Failure;
 use std::process::ExitCode;
 
+#[global_allocator]
+static MEMORY: process::Ending = process::Ending;
+
 fn main() -> ExitCode {
+    process::refuse_over_limit();
     let words = std::env::args_os().skip(1).collect();
     match commands::run(words).and_then(|output| files::print(&output)) {
         Ok(()) => ExitCode::SUCCESS,
+        // Nobody is left to be told, or all is told.
+        Err(failure @ (Failure::Closed | Failure::Told(_))) => ExitCode::from(failure.status()),
         Err(failure) => {
-            let line = failure.to_string().replace(char::is_control, "?");
-            // Where standard error is closed, the exit status still tells the failure.
-            let _ = writeln!(std::io::stderr(), "tfs: {line}");
+            report::tell(&failure);
             ExitCode::from(failure.status())
         }
     }

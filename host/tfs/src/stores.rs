@@ -21,8 +21,8 @@ pub enum Change<'a> {
     Create(&'a [u8], u32),
     /// The file of this name goes.
     Remove(&'a [u8]),
-    /// These bytes are written to the start of the file of this name.
-    Write(&'a [u8], &'a [u8]),
+    /// From this offset on, these bytes are written into the file of this name.
+    Write(&'a [u8], u32, &'a [u8]),
     /// The bits of the map that nobody claims are cleared.
     Mend,
     /// The timing file gets this board number, this maker number and these values.
@@ -41,7 +41,9 @@ impl Change<'_> {
         let number = match *self {
             Self::Create(name, size) => tfs::create_store(volume, name, size, k, &mut block),
             Self::Remove(name) => tfs::remove_store(volume, name, k, &mut block),
-            Self::Write(name, bytes) => tfs::write_store(volume, name, 0, bytes, k, &mut block),
+            Self::Write(name, offset, bytes) => {
+                tfs::write_store(volume, name, offset, bytes, k, &mut block)
+            }
             Self::Mend => mended(volume, k, &mut block),
             Self::StoreTiming(board, maker, values) => {
                 timing::store_block(volume, board, maker, values, k, &mut block)
@@ -56,7 +58,7 @@ impl Change<'_> {
         match *self {
             Self::Create(name, size) => tfs::create(volume, name, size).map(drop),
             Self::Remove(name) => tfs::remove(volume, name),
-            Self::Write(name, bytes) => tfs::write(volume, name, 0, bytes).map(drop),
+            Self::Write(name, offset, bytes) => tfs::write(volume, name, offset, bytes).map(drop),
             Self::Mend => tfs::mend(volume),
             Self::StoreTiming(board, maker, values) => timing::store(volume, board, maker, values),
             Self::OpenLid => timing::open_lid(volume),

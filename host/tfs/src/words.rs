@@ -1,8 +1,12 @@
 //! Refusals and names in words.
 
 use proved::Refusal;
+use std::fmt::Display;
 
-/// A refusal in words, with its place.
+/// The greatest number of bytes of a name in a message.
+const SHOWN: usize = 64;
+
+/// A refusal in the words of its rule, with its place; `survey::cause` has those of the one cause.
 pub fn refusal(refusal: Refusal) -> String {
     let Refusal { number, place } = refusal;
     match number {
@@ -65,6 +69,14 @@ fn plain(number: u32) -> &'static str {
     }
 }
 
+/// A number of things, such as "1 byte" and "2 bytes".
+pub fn count(number: impl Display, thing: &str) -> String {
+    match number.to_string().as_str() {
+        "1" => format!("1 {thing}"),
+        number => format!("{number} {thing}s"),
+    }
+}
+
 /// A name on one line: printable ASCII as it is, the backslash and any other byte as `\xNN`.
 pub fn name(bytes: &[u8]) -> String {
     let mut shown = String::new();
@@ -75,6 +87,16 @@ pub fn name(bytes: &[u8]) -> String {
         }
     }
     shown
+}
+
+/// A name for a message: of a long one its start and its length.
+pub fn start_of_name(bytes: &[u8]) -> String {
+    match bytes.get(..SHOWN) {
+        Some(start) if bytes.len() > SHOWN => {
+            format!("{}... ({} bytes)", name(start), bytes.len())
+        }
+        _ => name(bytes),
+    }
 }
 
 #[cfg(test)]
@@ -96,8 +118,21 @@ mod tests {
     }
 
     #[test]
+    fn one_thing_is_not_several() {
+        let counted = [0, 1, 2].map(|number| count(number, "byte"));
+        assert_eq!(counted, ["0 bytes", "1 byte", "2 bytes"]);
+    }
+
+    #[test]
     fn names_stay_on_one_line() {
         assert_eq!(name(b"boot cfg~"), "boot cfg~");
         assert_eq!(name(b"a/b\\c\n\xff"), "a/b\\x5cc\\x0a\\xff");
+    }
+
+    #[test]
+    fn a_long_name_is_cut_in_a_message() {
+        assert_eq!(start_of_name(&[b'n'; 64]), "n".repeat(64));
+        let cut = "n".repeat(64) + "... (65 bytes)";
+        assert_eq!(start_of_name(&[b'n'; 65]), cut);
     }
 }

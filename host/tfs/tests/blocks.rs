@@ -52,12 +52,16 @@ fn put_tells_the_blocks_of_every_size() {
 fn get_tells_the_blocks_of_every_size() {
     let folder = with_files("blocks_get");
     for (size, blocks) in SIZES {
-        let told = folder.tfs(&format!("get v f{size} out --blocks")).text();
+        let told = folder
+            .tfs(&format!("get v f{size} out --force --blocks"))
+            .text();
         assert_eq!(told, line(blocks), "{size}");
         assert!(folder.read("out") == some(size), "{size}");
-        let told = folder.tfs(&format!("get --blocks v f{size}")).text();
+        let told = folder
+            .tfs(&format!("get --force --blocks v f{size}"))
+            .text();
         assert_eq!(told, line(blocks), "{size}");
-        let plain = folder.tfs(&format!("get v f{size} out")).text();
+        let plain = folder.tfs(&format!("get v f{size} out --force")).text();
         assert_eq!(plain, "", "{size}");
     }
 }
@@ -101,21 +105,24 @@ fn what_is_refused_tells_no_blocks() {
     folder.write("large", &some(65_025));
     folder.tfs("make small --size 2K").granted();
     for (command, message) in [
-        ("put v f1", "v: refused 10: the name stands already"),
-        ("put v large", "v: refused 9: the size is over 65,024 bytes"),
+        ("put v f1", "v: refused 10: f1 stands already, in slot 1"),
+        (
+            "put v large",
+            "v: refused 9: the size is over 65024 bytes, the most that a file may have",
+        ),
         (
             "put v f1 --name a.name.that.is.too.long",
-            "v: refused 8: the name is empty, over 15 bytes, or holds a zero byte",
+            "v: refused 8: the name is 23 bytes long, at most 15 are allowed",
         ),
         (
             "put small f1",
-            "small: refused 12: there are too few free blocks",
+            "small: refused 12: too few free blocks: 2 needed with the inode, 1 free",
         ),
-        ("get v none", "v: refused 13: no file has this name"),
-        ("get v none -", "v: refused 13: no file has this name"),
+        ("get v none", "v: refused 13: no file has the name none"),
+        ("get v none -", "v: refused 13: no file has the name none"),
         (
             "get large f1 -",
-            "large: refused 2: the magic number is not 3745",
+            "large: refused 2: the magic number is 462357, not 3745",
         ),
     ] {
         folder.refused(&format!("{command} --blocks"), 1, message);
@@ -125,7 +132,7 @@ fn what_is_refused_tells_no_blocks() {
 #[test]
 fn what_cannot_be_written_tells_no_blocks() {
     let folder = with_files("blocks_not_written");
-    let missing = "no/out: No such file or directory (os error 2)";
+    let missing = "no/out: there is no folder no";
     folder.refused("get v f513 no/out --blocks", 3, missing);
     folder.refused("get v f513 v --blocks", 3, "v: is the image itself");
     let ran = folder.shell("tfs get v f513 - --blocks >/dev/full");
@@ -149,7 +156,7 @@ fn a_trace_does_not_hold_the_blocks() {
         "put IMAGE in",
         "put IMAGE in --replace",
         "put IMAGE in",
-        "get IMAGE in out",
+        "get IMAGE in out --force",
         "get IMAGE in -",
         "get IMAGE none -",
     ] {

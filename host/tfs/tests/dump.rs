@@ -162,7 +162,7 @@ fn a_name_that_a_lower_slot_has() {
     folder.refused(
         "check v",
         1,
-        "v: refused 4: slot 7 is neither free nor used, or repeats the name of a lower slot",
+        "v: refused 4: slot 7 has the name of slot 0 again: TIMING",
     );
 }
 
@@ -186,10 +186,19 @@ fn parts_that_are_cut_off() {
 #[test]
 fn a_part_must_be_named() {
     let folder = Folder::new("dump_usage");
-    for part in [
-        "block", "slot", "slot 25", "slot x", "inode", "inode -1", "map 0", "header 0",
+    for (part, why) in [
+        (
+            "block",
+            "block: no such part; there are header, map, slot N, inode N",
+        ),
+        ("slot", "slot needs a number"),
+        ("slot 25", "there is no slot 25, the last is 24"),
+        ("slot x", "x: no number"),
+        ("inode", "inode needs a number"),
+        ("inode -1", "-1: no number"),
+        ("map 0", "map has no number"),
+        ("header 0", "header has no number"),
     ] {
-        let wanted = "dump: header, map, slot N (0 to 24) or inode N (a block) is needed";
-        folder.refused(&format!("dump v {part}"), 2, wanted);
+        folder.refused(&format!("dump v {part}"), 2, &format!("dump: {why}"));
     }
 }

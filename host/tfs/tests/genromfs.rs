@@ -74,8 +74,11 @@ fn images_are_checked_printed_and_extracted() {
             accepted(&folder, title, &lookups);
         } else {
             assert_eq!(refusal, 28);
-            let message = format!("i: refused 28: directory at {place} has a list at depth 9");
-            folder.refused("rom check i", 1, &message);
+            let ran = folder.tfs("rom check i");
+            let begin = format!("tfs: i: refused 28: directory at {place} (");
+            let end = ") has a list at depth 9, at most 8 are allowed\n";
+            assert!(ran.err.starts_with(&begin), "{}", ran.err);
+            assert!(ran.err.ends_with(end), "{}", ran.err);
         }
     }
     assert!(packed.0.is_empty());
@@ -84,7 +87,7 @@ fn images_are_checked_printed_and_extracted() {
 fn accepted(folder: &Folder, title: &str, lookups: &[Lookup]) {
     assert_eq!(folder.tfs("rom check i").text(), "accepted\n", "{title}");
     let list = folder.tfs("rom list i").text();
-    let report = folder.tfs("rom extract i out").text();
+    let report = folder.tfs("rom extract i out").err;
     for lookup in lookups {
         let path = &lookup.path;
         let ran = folder.run(&["rom", "cat", "i", path]);

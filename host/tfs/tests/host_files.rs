@@ -25,6 +25,11 @@ fn missing_files_are_named() {
         "put no in",
         "get no in",
         "remove no in",
+        "create no f 1",
+        "put no in --at 0",
+        "get no in --to .",
+        "extract no out",
+        "build no out",
         "mend no",
         "put no in --in-place",
         "mend no --in-place",
@@ -48,8 +53,8 @@ fn missing_files_are_named() {
 fn a_missing_folder_is_not_made() {
     let folder = with_volume("missing_folder");
     folder.tfs("put v in").granted();
-    folder.refused("make no/v --size 64K", 3, &format!("no/v: {MISSING}"));
-    folder.refused("get v in no/out", 3, &format!("no/out: {MISSING}"));
+    folder.refused("make no/v --size 64K", 3, "no/v: there is no folder no");
+    folder.refused("get v in no/out", 3, "no/out: there is no folder no");
     folder.refused(
         "get v in in/out",
         3,
@@ -125,7 +130,7 @@ fn make_replaces_nothing_unasked() {
     folder.refused(
         "make link --size 64K",
         3,
-        "link: exists already (--force replaces it)",
+        "link: is a symbolic link that leads to nothing",
     );
 }
 
@@ -134,9 +139,17 @@ fn only_plain_files_are_replaced() {
     let folder = with_volume("plain_files");
     folder.tfs("put v in").granted();
     fs::create_dir(folder.path("dir")).unwrap();
-    folder.refused("get v in dir", 3, "dir: not a plain file");
-    folder.refused("get v in /dev/null", 3, "/dev/null: not a plain file");
-    folder.refused("make dir --size 64K --force", 3, "dir: not a plain file");
+    symlink("nowhere", folder.path("link")).unwrap();
+    for line in ["get v in PLACE", "make PLACE --size 64K"] {
+        for (place, what) in [
+            ("dir", "a folder, which cannot be replaced"),
+            ("link", "a symbolic link that leads to nothing"),
+        ] {
+            let (line, message) = (line.replace("PLACE", place), format!("{place}: is {what}"));
+            folder.refused(&line, 3, &message);
+            folder.refused(&format!("{line} --force"), 3, &message);
+        }
+    }
     folder.refused("get v in v", 3, "v: is the image itself");
     folder.refused("get v in ./dir/../v", 3, "./dir/../v: is the image itself");
 }
@@ -166,7 +179,7 @@ fn a_name_with_a_slash_needs_a_host_file() {
             2,
             &format!("get: {name}: give a HOSTFILE"),
         );
-        folder.tfs(&format!("get v {name} out")).granted();
+        folder.tfs(&format!("get v {name} out --force")).granted();
         assert!(folder.read("out") == some(3000));
     }
 }

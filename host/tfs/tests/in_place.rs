@@ -39,6 +39,12 @@ fn the_bytes_are_those_of_a_renamed_file() {
         "put IMAGE f1 --name f65024 --replace",
         "put IMAGE f1 --replace",
         "remove IMAGE f0",
+        "create IMAGE new 1300",
+        "put IMAGE f513 --name new --at 500",
+        "put IMAGE f512 --name new --at 512 --length 512",
+        "put IMAGE f0 --name new --at 1300",
+        "put IMAGE f0 f1 f513 f512 --replace",
+        "remove IMAGE f0 new f1",
     ] {
         let put = format!("{} --in-place", line.replace("IMAGE", "v"));
         folder.tfs(&put).granted();
@@ -86,18 +92,41 @@ fn what_is_refused_stores_nothing() {
     for (line, message) in [
         (
             "put v f1 --name old",
-            "v: refused 10: the name stands already",
+            "v: refused 10: old stands already, in slot 0",
         ),
-        ("put v large", "v: refused 9: the size is over 65,024 bytes"),
+        (
+            "put v large",
+            "v: refused 9: the size is over 65024 bytes, the most that a file may have",
+        ),
         (
             "put v large --name old --replace",
-            "v: refused 9: the size is over 65,024 bytes",
+            "v: refused 9: the size is over 65024 bytes, the most that a file may have",
         ),
         (
             "put v f65024 --name old --replace",
-            "v: refused 12: there are too few free blocks",
+            "v: refused 12: too few free blocks: 128 needed with the inode, 125 free",
         ),
-        ("remove v none", "v: refused 13: no file has this name"),
+        ("remove v none", "v: refused 13: no file has the name none"),
+        (
+            "remove v old none",
+            "v: none: refused 13: no file has the name none",
+        ),
+        (
+            "put v f1 old",
+            "v: old: refused 10: old stands already, in slot 0",
+        ),
+        (
+            "create v old 1",
+            "v: refused 10: old stands already, in slot 0",
+        ),
+        (
+            "put v f1 --name old --at 701",
+            "v: refused 15: offset 701 is behind the end of old, which has 700 bytes",
+        ),
+        (
+            "put v f1 --name old --at 700",
+            "v: old has room for only 0 bytes from offset 700 on",
+        ),
     ] {
         folder.refused(&format!("{line} --in-place"), 1, message);
     }
@@ -112,6 +141,9 @@ fn a_trace_is_the_same() {
         "put IMAGE f1 --name f513 --replace --blocks --record TRACE",
         "remove IMAGE old --record TRACE",
         "remove IMAGE old --record TRACE",
+        "put IMAGE f0 f1 --record TRACE",
+        "create IMAGE new 600 --record TRACE",
+        "put IMAGE f1 --name new --at 599 --record TRACE",
     ] {
         let fill = |image: &str, trace: &str| line.replace("IMAGE", image).replace("TRACE", trace);
         let ours = folder.tfs(&format!("{} --in-place", fill("v", "t")));
@@ -180,7 +212,14 @@ fn a_block_device_is_not_replaced_by_a_file() {
 #[test]
 fn only_commands_that_change_a_volume_know_the_option() {
     let folder = with_volumes("in_place_option");
-    for command in ["put", "remove", "mend", "timing store", "timing open-lid"] {
+    for command in [
+        "create",
+        "put",
+        "remove",
+        "mend",
+        "timing store",
+        "timing open-lid",
+    ] {
         let help = folder.tfs(&format!("{command} --help")).text();
         assert!(help.contains("[--in-place]"), "{command}");
         assert!(
@@ -196,6 +235,8 @@ fn only_commands_that_change_a_volume_know_the_option() {
         "make x --size 64K",
         "timing show v",
         "timing boot v",
+        "extract v x",
+        "build x v",
     ] {
         let ran = folder.tfs(&format!("{line} --in-place"));
         assert_eq!(ran.status, 2, "{line}");

@@ -61,13 +61,13 @@ fn a_consistent_volume_is_not_written() {
 fn a_missing_bit_is_refused_at_its_place() {
     let folder = with_files("mend_missing");
     flip(&folder, "v", &[5, 20]);
-    let message = "v: refused 7: block 5 has a map bit that differs from its use";
+    let message = "v: refused 7: block 5 belongs to a and is marked free";
     for line in ["check v", "mend v", "mend v --in-place", "remove v a"] {
         folder.refused(line, 1, message);
     }
     flip(&folder, "v", &[5]);
     flip(&folder, "v", &[7]);
-    let message = "v: refused 7: block 7 has a map bit that differs from its use";
+    let message = "v: refused 7: block 7 belongs to b and is marked free";
     folder.refused("mend v", 1, message);
 }
 
@@ -76,10 +76,10 @@ fn a_stray_bit_before_a_missing_one_has_no_hint() {
     let folder = with_files("mend_before");
     folder.tfs("remove v a").granted();
     flip(&folder, "v", &[4, 7]);
-    let message =
-        |block| format!("v: refused 7: block {block} has a map bit that differs from its use");
-    folder.refused("check v", 1, &message(4));
-    folder.refused("mend v", 1, &message(7));
+    let stray = "v: refused 7: block 4 is marked used and no file has it";
+    folder.refused("check v", 1, stray);
+    let missing = "v: refused 7: block 7 belongs to b and is marked free";
+    folder.refused("mend v", 1, missing);
 }
 
 /// Checks a damaged image: the message has the hint exactly if a mend is granted.
@@ -122,7 +122,7 @@ fn every_command_has_the_hint() {
     folder.write("t", b"");
     folder.write("values", &[b'7', b' '].repeat(28));
     flip(&folder, "v", &[20]);
-    let message = "v: refused 7: block 20 has a map bit that differs from its use (tfs mend helps)";
+    let message = "v: refused 7: block 20 is marked used and no file has it (tfs mend helps)";
     for line in [
         "check v",
         "list v",

@@ -11,14 +11,24 @@ const README: &str = include_str!("../README.md");
 fn examples() -> Vec<(String, String)> {
     let mut commands: Vec<(String, String)> = Vec::new();
     let mut inside = false;
+    // Empty lines may be printed, too.
+    let mut empty = String::new();
     for line in README.lines() {
         match line.strip_prefix("    ") {
             Some(text) if text.starts_with("$ ") => {
                 commands.push((text[2..].to_string(), String::new()));
                 inside = true;
+                empty.clear();
             }
-            Some(text) if inside => commands.last_mut().unwrap().1 += &format!("{text}\n"),
-            _ => inside = false,
+            Some(text) if inside => {
+                let printed = &mut commands.last_mut().unwrap().1;
+                *printed += &format!("{}{text}\n", std::mem::take(&mut empty));
+            }
+            _ if line.is_empty() => empty.push('\n'),
+            _ => {
+                inside = false;
+                empty.clear();
+            }
         }
     }
     commands

@@ -6,7 +6,7 @@ use bench::{some, Folder};
 use std::fs;
 use std::os::unix::fs::symlink;
 
-const EMPTY: &str = "v: refused 13: no file has this name";
+const EMPTY: &str = "v: refused 13: no file has the name in";
 
 /// A folder with an empty volume, a copy of it as it was, and a host file.
 fn with_volume(name: &str) -> Folder {
@@ -62,7 +62,7 @@ fn a_session_is_recorded_and_replayed() {
     refused(
         &folder,
         "put v in --record t",
-        "v: refused 10: the name stands already",
+        "v: refused 10: in stands already, in slot 0",
     );
     folder.write("in", b"2 off\n");
     folder.tfs("put v in --replace --record t").granted();
@@ -90,7 +90,7 @@ fn large_files_are_recorded_whole() {
     refused(
         &folder,
         "put v in --name b --record t",
-        "v: refused 9: the size is over 65,024 bytes",
+        "v: refused 9: the size is over 65024 bytes, the most that a file may have",
     );
     let replayed = folder.tfs("replay start t --out end").text();
     assert_eq!(replayed, "records replayed: 4\n");
@@ -104,7 +104,7 @@ fn a_refused_volume_is_recorded_as_such() {
     refused(
         &folder,
         "free v --record t",
-        "v: refused 1: the image is under 1,536 bytes",
+        "v: refused 1: the image has 5 bytes, under 1536",
     );
     assert_eq!(shown(&folder), "free -> refused 1\n");
 }
@@ -115,11 +115,17 @@ fn what_a_refusal_takes_back_is_not_recorded() {
     folder.tfs("put v in --record t").granted();
     let before = folder.read("t");
     folder.write("in", &some(65_024));
-    let message = "v: refused 12: there are too few free blocks";
-    refused(&folder, "put v in --replace --record t", message);
+    let message = |free: u32| {
+        format!("v: refused 12: too few free blocks: 128 needed with the inode, {free} free")
+    };
+    refused(&folder, "put v in --replace --record t", &message(125));
     assert!(folder.read("t") == before);
     // Without the remove, the refusal is recorded.
-    refused(&folder, "put v in --replace --name b --record t", message);
+    refused(
+        &folder,
+        "put v in --replace --name b --record t",
+        &message(123),
+    );
     assert!(
         shown(&folder).ends_with("remove \"b\" -> refused 13\ncreate \"b\" 65024 -> refused 12\n")
     );
@@ -158,13 +164,9 @@ fn the_trace_is_a_file_of_its_own() {
         3,
         "dir: Is a directory (os error 21)",
     );
-    let missing = "No such file or directory (os error 2)";
     for line in ["put v in --name b", "get v in out", "remove v in", "free v"] {
-        folder.refused(
-            &format!("{line} --record no/t"),
-            3,
-            &format!("no/t: {missing}"),
-        );
+        let missing = "no/t: there is no folder no";
+        folder.refused(&format!("{line} --record no/t"), 3, missing);
         for path in ["", "new/", "new/."] {
             let message = format!("{path}: not the name of a file");
             folder.refused(&format!("{line} --record={path}"), 3, &message);
@@ -188,7 +190,7 @@ fn commands_that_do_not_reach_the_volume_record_nothing() {
 fn a_get_that_fails_records_nothing() {
     let folder = with_volume("record_get_fails");
     folder.tfs("put v in --record t").granted();
-    let missing = "no/out: No such file or directory (os error 2)";
+    let missing = "no/out: there is no folder no";
     folder.refused("get v in no/out --record t", 3, missing);
 }
 

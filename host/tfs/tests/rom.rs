@@ -31,15 +31,15 @@ fn the_image_of_the_rules() {
 }
 
 #[test]
-fn the_list_is_a_tree() {
+fn the_list_has_whole_paths() {
     let folder = Folder::new("rom_list");
     folder.write("i", &sample());
     let lines = "      32 - directory        0 . -> header 32
       64 - hardlink         0 .. -> header 32
       96 - file           100 boot.cfg
      240 - directory        0 bin
-     272 x file            20   run
-     336 - directory        0   low
+     272 x file            20 bin/run
+     336 - directory        0 bin/low
      368 - symlink          7 to -> bin/run
      416 - hardlink         0 again -> header 96
      448 - char             0 tty 5,1
@@ -59,14 +59,33 @@ fn files_are_printed_by_path() {
     }
     assert!(folder.tfs("rom cat i bin//run").granted() == some(20));
     assert_eq!(folder.tfs("rom cat i to").granted(), b"bin/run");
-    for path in ["boot", "bin/low/run"] {
-        let message = "i: refused 30: the directory has no entry of this name";
-        folder.refused(&format!("rom cat i {path}"), 1, message);
-    }
-    for path in ["/", "bin", "tty", "to/run", "boot.cfg/x", "tty/.."] {
-        let message =
-            "i: refused 31: not a header of the tree, not a directory, or not a file with content";
-        folder.refused(&format!("rom cat i {path}"), 1, message);
+}
+
+#[test]
+fn a_path_that_leads_to_no_content_is_told() {
+    let folder = Folder::new("rom_cat_refused");
+    folder.write("i", &sample());
+    for (path, why) in [
+        ("boot", "30: the root directory has no entry boot"),
+        ("bin/low/run", "30: directory at 336 (low) has no entry run"),
+        ("/", "31: the root directory is no file"),
+        (
+            "bin",
+            "31: directory at 240 (bin) is no file and no symbolic link",
+        ),
+        (
+            "tty",
+            "31: character device at 448 (tty) is no file and no symbolic link",
+        ),
+        ("to/run", "31: symbolic link at 368 (to) is no directory"),
+        ("boot.cfg/x", "31: file at 96 (boot.cfg) is no directory"),
+        (
+            "tty/..",
+            "31: character device at 448 (tty) is no directory",
+        ),
+    ] {
+        let message = format!("i: refused {why}");
+        folder.refused(&format!("rom cat i {path}"), 1, &message);
     }
 }
 
@@ -75,7 +94,9 @@ fn the_tree_is_extracted() {
     let folder = Folder::new("rom_extract");
     folder.write("i", &sample());
     let report = "skipped tty: char 5,1\nskipped pipe: fifo\n";
-    assert_eq!(folder.tfs("rom extract i out/").text(), report);
+    let told = format!("{report}tfs: out/: extracted but for 2 entries\n");
+    let ran = folder.tfs("rom extract i out/");
+    assert_eq!((ran.status, ran.err, ran.out.len()), (7, told, 0));
     assert!(folder.read("out/boot.cfg") == some(100));
     assert!(folder.read("out/bin/run") == some(20));
     assert_eq!(fs::read_dir(folder.path("out/bin/low")).unwrap().count(), 0);
@@ -90,11 +111,7 @@ fn the_tree_is_extracted() {
     assert_eq!(fs::read_dir(folder.path("out")).unwrap().count(), 4);
     assert_eq!(folder.names(), ["i", "out"]);
     folder.refused("rom extract i out", 3, "out: exists already");
-    folder.refused(
-        "rom extract i no/out",
-        3,
-        "no/out: No such file or directory (os error 2)",
-    );
+    folder.refused("rom extract i no/out", 3, "no/out: there is no folder no");
 }
 
 fn hostile(absolute: &str) -> Vec<u8> {
@@ -124,17 +141,18 @@ fn nothing_leaves_the_folder() {
     // A tool that took this name would still stay in the folder of this test.
     let absolute = folder.path("evil").display().to_string();
     folder.write("i", &hostile(&absolute));
-    let name = "no name for a host file";
+    let name = "a slash in the name";
     let report = format!(
-        "skipped ../evil: {name}\nskipped ..: {name}
+        "skipped ../evil: {name}\nskipped ..: the host keeps this name for folders
 skipped d: the name stands already\nskipped {absolute}: {name}\nskipped ../target: {name}
 skipped d: the name stands already\nskipped target/evil: {name}
-skipped dir: hard link to a directory\nskipped {}: {name}
-skipped empty: no target for a link of the host
-skipped zero: no target for a link of the host\n",
+skipped dir: hard link to a directory\nskipped {}: a name of 256 bytes, over 255
+skipped empty: an empty target\nskipped zero: a zero byte in the target
+tfs: out: extracted but for 11 entries\n",
         "n".repeat(256)
     );
-    assert_eq!(folder.tfs("rom extract i out").text(), report);
+    let ran = folder.tfs("rom extract i out");
+    assert_eq!((ran.status, ran.err), (7, report));
     assert_eq!(folder.names(), ["i", "out", "target"]);
     assert_eq!(fs::read_dir(folder.path("target")).unwrap().count(), 0);
     assert_eq!(fs::read_dir(folder.path("out")).unwrap().count(), 3);
@@ -153,9 +171,22 @@ fn an_extract_that_fails_half_way_leaves_nothing() {
     let message = "tfs: out/dir/large: File too large (os error 27)\n";
     assert_eq!((ran.status, ran.err.as_str()), (3, message));
     assert_eq!(folder.names(), ["i"]);
+}
+
+/// The folder is whole but for what is skipped, so it stays also where nobody can be told.
+#[test]
+fn an_extract_that_skipped_entries_has_a_status_of_its_own() {
+    let folder = Folder::new("rom_skipped");
     folder.write("i", &sample());
-    assert_eq!(folder.shell("tfs rom extract i out >/dev/full").status, 3);
-    assert_eq!(folder.names(), ["i"]);
+    assert_eq!(folder.shell("tfs rom extract i full 2>/dev/full").status, 7);
+    assert_eq!(folder.shell("tfs rom extract i shut 2>&-").status, 7);
+    assert!(folder.read("full/boot.cfg") == folder.read("shut/boot.cfg"));
+    let one = image(&[file(b"a", b"x"), file(b"a", b"y")]);
+    folder.write("i", &one);
+    let ran = folder.tfs("rom extract i one");
+    let told = "skipped a: the name stands already\ntfs: one: extracted but for 1 entry\n";
+    assert_eq!((ran.status, ran.err.as_str()), (7, told));
+    assert_eq!(folder.read("one/a"), b"x");
 }
 
 #[test]
@@ -177,31 +208,27 @@ fn every_fault_of_an_image_is_named() {
             })
             .unwrap();
         folder.write("i", &image);
-        let message = format!("i: refused {rule}: {}", fault_words(rule, place));
-        for line in [
-            "rom check i",
-            "rom list i",
-            "rom extract i out",
-            "rom cat i a",
-        ] {
-            folder.refused(line, 1, &message);
+        let message = folder.tfs("rom check i").err;
+        let message = message.strip_prefix("tfs: ").unwrap().trim_end();
+        let (begin, told) = fault_words(rule, place);
+        let begin = format!("i: refused {rule}: {begin}");
+        assert!(message.starts_with(&begin), "{message}");
+        assert!(message.contains(&told), "{message}");
+        for line in ["rom list i", "rom extract i out", "rom cat i a"] {
+            folder.refused(line, 1, message);
         }
     }
 }
 
-fn fault_words(rule: u32, place: u32) -> String {
+/// How the cause of a fault begins, and the place that it tells.
+fn fault_words(rule: u32, place: u32) -> (&'static str, String) {
     match rule {
-        21 => "the image is under 32 bytes".to_string(),
-        22 => "the image does not begin with \"-rom1fs-\"".to_string(),
-        23 => {
-            "the full size is under 32, over the image's length, or no multiple of 16".to_string()
-        }
-        24 => "the checksum of the volume header is wrong".to_string(),
-        25 => "the volume name has no end".to_string(),
-        26 => format!("header at {place} has a wrong end, name, checksum, spec.info or size"),
-        27 => format!("header at {place} has a next or first header that breaks nesting"),
-        28 => format!("directory at {place} has a list at depth 9"),
-        _ => format!("header at {place} links to no header that it may link to"),
+        21 => ("the image has ", String::new()),
+        22 => ("the image does not begin with \"-rom1fs-\"", String::new()),
+        23 => ("the full size is ", String::new()),
+        24 => ("the first ", " bytes have a wrong checksum: ".to_string()),
+        25 => ("the volume name has no end ", String::new()),
+        _ => ("", format!(" at {place} ")),
     }
 }
 
@@ -217,7 +244,9 @@ fn made_images_are_listed_and_extracted() {
         let listed = list.lines().map(|line| line[..8].trim().parse().unwrap());
         let placed = made.entries.iter().map(|entry| entry.at);
         assert_eq!(listed.collect::<Vec<u32>>(), placed.collect::<Vec<u32>>());
-        folder.tfs("rom extract i out").text();
+        let ran = folder.tfs("rom extract i out");
+        let skipped = ran.err.matches("skipped ").count();
+        assert_eq!(ran.status, if skipped == 0 { 0 } else { 7 }, "{}", ran.err);
         assert_eq!(folder.names(), ["i", "out"]);
         for entry in made.entries.iter().filter(|entry| entry.depth == 1) {
             same_content(&folder, &made.image, entry.file_type, &entry.name);

@@ -19,11 +19,9 @@ const LARGEST: &str = "65535 65535 65535 65535 65535 65535 65535
 ";
 
 const STORE: &str = "timing store IMAGE --board N --maker N VALUES [--in-place]";
-const OPENED: &str =
-    "v: refused 34: board number 0: the lid was opened, or a first store was cut off";
+const OPENED: &str = "v: refused 34: the timing file has board number 0: the lid was opened";
 const NO_BOARD: &str = "v: refused 34: board number 0 cannot be stored";
 const ABSENT: &str = "v: refused 13: there is no timing file (TIMING)";
-const SIZED: &str = "v: refused 35: the timing file has another size than 64 bytes";
 
 /// A volume "v" with a file, and the values in a host file.
 fn with_volume(name: &str) -> Folder {
@@ -85,16 +83,17 @@ fn a_boot_gets_the_values_of_its_board_and_maker() {
         LINES
     );
     assert!(folder.read("v") == before);
-    let board = "v: refused 36: the timing file is another board's";
-    let maker = "v: refused 37: the timing file is another memory maker's";
-    for (numbers, message) in [
-        ("--board 8 --maker 1", board),
-        ("--board 0 --maker 1", board),
-        ("--board 8 --maker 2", board),
-        ("--board 7 --maker 2", maker),
-        ("--board 7 --maker 0", maker),
+    let board = "refused 36: the timing file is of board 7, not";
+    let maker = "refused 37: the timing file is of memory maker 1, not";
+    for (numbers, found, asked) in [
+        ("--board 8 --maker 1", board, 8),
+        ("--board 0 --maker 1", board, 0),
+        ("--board 8 --maker 2", board, 8),
+        ("--board 7 --maker 2", maker, 2),
+        ("--board 7 --maker 0", maker, 0),
     ] {
-        folder.refused(&format!("timing boot v {numbers}"), 1, message);
+        let message = format!("v: {found} {asked}");
+        folder.refused(&format!("timing boot v {numbers}"), 1, &message);
     }
 }
 
@@ -110,8 +109,7 @@ fn after_the_lid_was_opened_values_must_be_stored_again() {
     ] {
         folder.refused(&format!("timing boot v {numbers}"), 1, OPENED);
     }
-    let why = "the lid was opened, or a first store was cut off";
-    let shown = format!("board: 0 ({why})\nmaker: 1\n{LINES}");
+    let shown = format!("board: 0 (the lid was opened)\nmaker: 1\n{LINES}");
     assert_eq!(folder.tfs("timing show v").text(), shown);
     let opened = folder.read("v");
     folder.tfs("timing open-lid v").granted();
@@ -144,6 +142,7 @@ fn another_size_is_refused() {
     let folder = with_volume("timing_size");
     for size in [0, 63, 65, 513] {
         put_timing(&folder, size);
+        let sized = format!("v: refused 35: the timing file has {size} bytes, not 64");
         for line in [
             "timing show v",
             "timing store v --board 7 --maker 1 values",
@@ -152,7 +151,7 @@ fn another_size_is_refused() {
             "timing open-lid v --in-place",
             "timing boot v --board 7 --maker 1",
         ] {
-            folder.refused(line, 1, SIZED);
+            folder.refused(line, 1, &sized);
         }
         folder.refused("timing store v --board 0 --maker 1 values", 1, NO_BOARD);
     }
@@ -178,7 +177,7 @@ fn a_store_may_be_refused() {
     folder.refused(
         &store(7, ""),
         1,
-        "v: refused 12: there are too few free blocks",
+        "v: refused 12: too few free blocks: 2 needed with the inode, 1 free",
     );
     folder.tfs("remove v large").granted();
     folder.write("f", b"");
@@ -186,7 +185,11 @@ fn a_store_may_be_refused() {
         folder.tfs(&format!("put v f --name {number}")).granted();
     }
     for option in ["", " --in-place"] {
-        folder.refused(&store(7, option), 1, "v: refused 11: there is no free slot");
+        folder.refused(
+            &store(7, option),
+            1,
+            "v: refused 11: all 25 slots have a file",
+        );
     }
     folder.refused(&store(0, ""), 1, NO_BOARD);
 }
@@ -241,9 +244,15 @@ fn values_have_several_forms() {
 fn bad_values_have_status_5() {
     let folder = Folder::new("timing_values");
     let line = "timing store none --board 7 --maker 1 bad";
-    for count in [0, 1, 27, 29, 56] {
+    for (count, stand) in [
+        (0, "values stand"),
+        (1, "value stands"),
+        (27, "values stand"),
+        (29, "values stand"),
+        (56, "values stand"),
+    ] {
         folder.write("bad", "7 ".repeat(count).as_bytes());
-        let message = format!("bad: {count} values stand there, not 28");
+        let message = format!("bad: {count} {stand} there, not 28");
         folder.refused(line, 5, &message);
     }
     for (index, word) in [
@@ -302,19 +311,16 @@ fn wrong_arguments_have_status_2() {
 #[test]
 fn a_board_or_a_maker_is_a_number() {
     let folder = with_volume("timing_numbers");
-    for number in [
-        "x",
-        "-1",
-        "+1",
-        "0x",
-        "0x1g",
-        "4294967296",
-        "0x100000000",
-        "1K",
-    ] {
+    let refused = |number: &str, why: &str| {
         let line = format!("timing boot v --board 1 --maker {number}");
-        let message = format!("timing boot: --maker {number}: no number below 2^32");
+        let message = format!("timing boot: --maker {number}: {why}");
         folder.refused(&line, 2, &message);
+    };
+    for number in ["x", "-1", "+1", "0x", "0x1g", "1K"] {
+        refused(number, "no number");
+    }
+    for number in ["4294967296", "0x100000000"] {
+        refused(number, "not below 2^32");
     }
 }
 

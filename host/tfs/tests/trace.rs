@@ -36,7 +36,7 @@ fn lines_are_made_and_shown() {
     let made = folder.run_with(&["trace", "make", "-", "u"], b"# none\n\nfree -> 7");
     made.granted();
     assert_eq!(folder.read("u"), b"\x05\0\x07");
-    folder.tfs("trace make /dev/null t").granted();
+    folder.tfs("trace make /dev/null t --force").granted();
     assert_eq!(folder.read("t"), b"");
     assert_eq!(folder.tfs("trace show t").text(), "");
 }
@@ -56,7 +56,7 @@ fn any_trace_is_shown_and_made_again() {
         let lines = folder.tfs("trace show t").text();
         assert_eq!(lines.lines().count(), 30);
         folder.write("lines", lines.as_bytes());
-        folder.tfs("trace make lines again").granted();
+        folder.tfs("trace make lines again --force").granted();
         assert!(folder.read("again") == trace);
     }
 }
@@ -99,6 +99,20 @@ fn a_bad_line_writes_nothing() {
 }
 
 #[test]
+fn a_file_that_stands_is_replaced_only_by_force() {
+    let folder = with_trace("trace_force");
+    folder.write("w", b"kept");
+    let message = "w: exists already (--force replaces it)";
+    for line in ["trace make lines w", "replay v t --out w"] {
+        folder.refused(line, 3, message);
+    }
+    folder.tfs("trace make lines w --force").granted();
+    assert!(folder.read("w") == folder.read("t"));
+    folder.tfs("replay v t --out w -f").granted();
+    assert_eq!(folder.tfs("check w").text(), "consistent\n");
+}
+
+#[test]
 fn a_session_is_replayed() {
     let folder = with_trace("replay");
     let before = folder.read("v");
@@ -112,7 +126,7 @@ fn a_session_is_replayed() {
     assert!(folder.read("w") == after && after != before);
     folder.write("t", b"");
     assert_eq!(
-        folder.tfs("replay v t --out w").text(),
+        folder.tfs("replay v t --out w --force").text(),
         "records replayed: 0\n"
     );
     assert!(folder.read("w") == before);
@@ -121,9 +135,9 @@ fn a_session_is_replayed() {
 /// Replays a trace of lines, which stops with a message, and gives the image after it.
 fn stopped(folder: &Folder, lines: &str, status: i32, message: &str) -> Vec<u8> {
     folder.write("lines", lines.as_bytes());
-    folder.tfs("trace make lines t").granted();
+    folder.tfs("trace make lines t --force").granted();
     folder.refused("replay v t", status, message);
-    let ran = folder.tfs("replay v t --out w");
+    let ran = folder.tfs("replay v t --out w --force");
     assert_eq!((ran.status, ran.err), (status, format!("tfs: {message}\n")));
     assert_eq!(ran.out, b"");
     folder.read("w")
@@ -134,7 +148,10 @@ fn a_differing_answer_is_told_and_its_effect_kept() {
     let folder = with_trace("replay_differs");
     let cases = [
         ("create \"B\" 9 -> refused 12", "granted"),
-        ("create \"TIMING\" 9 -> granted", "refused 10"),
+        (
+            "create \"TIMING\" 9 -> granted",
+            "refused 10: TIMING stands already, in slot 0",
+        ),
         ("write \"TIMING\" 999 \"ab\" -> 2", "1"),
         (
             "read \"TIMING\" 996 4 -> \"\\x00\\x00\\x00\"",
@@ -197,7 +214,7 @@ fn a_refused_volume_is_not_replayed() {
     let mut image = folder.read("v");
     image[515] = 0x0F;
     folder.write("v", &image);
-    let message = "v: refused 7: block 3 has a map bit that differs from its use (tfs mend helps)";
+    let message = "v: refused 7: block 3 is marked used and no file has it (tfs mend helps)";
     folder.refused("replay v t --out w", 1, message);
     folder.write("t", b"\x06");
     folder.refused("replay v t --out w", 1, message);
@@ -211,10 +228,10 @@ fn replay_keeps_its_files_apart() {
     let missing = "No such file or directory (os error 2)";
     folder.refused("replay no t", 3, &format!("no: {missing}"));
     folder.refused("replay v no", 3, &format!("no: {missing}"));
-    folder.refused("replay v t --out no/w", 3, &format!("no/w: {missing}"));
+    folder.refused("replay v t --out no/w", 3, "no/w: there is no folder no");
     folder.refused("trace show no", 3, &format!("no: {missing}"));
     folder.refused("trace make no t", 3, &format!("no: {missing}"));
-    folder.refused("trace make lines no/t", 3, &format!("no/t: {missing}"));
+    folder.refused("trace make lines no/t", 3, "no/t: there is no folder no");
 }
 
 /// The status and the number that a replay owes are those of the reference.
@@ -238,7 +255,7 @@ fn drawn_traces_end_as_they_should() {
         trace = changed.map_or(trace, |(trace, _)| trace);
         folder.write("v", &made.image);
         folder.write("t", &trace);
-        let ran = folder.tfs("replay v t --out w");
+        let ran = folder.tfs("replay v t --out w --force");
         let mut image = made.image.clone();
         let (status, said) = match replay(&mut image, &trace).unwrap() {
             Replayed::All(count) => (0, format!("records replayed: {count}\n")),

@@ -32,7 +32,7 @@ fn what_is_put_is_got_back() {
     }
     assert_eq!(folder.tfs("check v").text(), "consistent\n");
     for size in sizes {
-        folder.tfs(&format!("get v f{size} out")).granted();
+        folder.tfs(&format!("get v f{size} out --force")).granted();
         assert!(folder.read("out") == some(size), "{size}");
         assert!(
             folder.tfs(&format!("get v f{size} -")).granted() == some(size),

@@ -48,6 +48,11 @@ pub struct Part {
     pub length: u32,
 }
 
+layout!(Answer: 12, refusal at 0, place at 4, value at 8);
+layout!(Header: 32, refusal at 0, place at 4, file_type at 8, executable at 12, info at 16,
+    size at 20, next at 24, name_length at 28);
+layout!(Part: 16, refusal at 0, place at 4, offset at 8, length at 12);
+
 extern "C" {
     fn romfs_check(image: *const u8, image_length: usize) -> Answer;
     fn romfs_find(

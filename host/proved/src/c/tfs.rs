@@ -34,6 +34,10 @@ pub struct Slot {
     pub name: [u8; 16],
 }
 
+layout!(Answer: 16, refusal at 0, place at 4, value at 8, blocks at 12);
+layout!(Slot: 40, refusal at 0, place at 4, used at 8, inode at 12, size at 16,
+    name_length at 20, name at 24);
+
 extern "C" {
     fn tfs_format(
         image: *mut u8,

@@ -27,6 +27,9 @@ pub struct Booted {
     pub values: [u16; VALUES],
 }
 
+layout!(Answer: 12, refusal at 0, place at 4, value at 8);
+layout!(Booted: 64, refusal at 0, place at 4, values at 8);
+
 extern "C" {
     fn timing_store(
         image: *mut u8,

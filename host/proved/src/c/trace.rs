@@ -60,6 +60,12 @@ pub struct Replayed {
     pub place: u64,
 }
 
+layout!(Entry: 48, kind at 0, size at 8, offset at 16, length at 24, refusal at 32, value at 40);
+layout!(Record: 88, entry at 0, name_at at 48, name_length at 56, bytes_at at 64,
+    bytes_length at 72, next at 80);
+layout!(Written: 16, refusal at 0, length at 8);
+layout!(Replayed: 32, outcome at 0, number at 8, refusal at 16, place at 24);
+
 extern "C" {
     fn tfs_trace_read(trace: *const u8, trace_length: usize, at: usize) -> Record;
     fn tfs_trace_write(

@@ -1,6 +1,7 @@
 //! What a slot means.
 
 use super::{out_of_range, word, zero_ended, Part};
+use crate::json::Members;
 use crate::words;
 
 /// A slot as its bytes give it.
@@ -29,13 +30,28 @@ impl<'a> Slot<'a> {
         self.inode == 0 && self.name == Some(b"")
     }
 
-    /// The leftovers up to the last byte that is not zero, in hex and as text.
-    fn leftovers(&self) -> String {
+    /// Whether it is free, used or neither.
+    fn state(&self, blocks: u32) -> &'static str {
+        let named = self.name.is_some_and(|name| !name.is_empty());
+        match named && out_of_range(self.inode, blocks).is_empty() {
+            _ if self.is_free() => "free",
+            true => "used",
+            false => "neither free nor used",
+        }
+    }
+
+    /// The leftovers up to the last byte that is not zero.
+    fn left(&self) -> &'a [u8] {
         let last = self.leftovers.iter().rposition(|&byte| byte != 0);
-        let Some(last) = last else {
+        last.map_or(&[], |last| &self.leftovers[..=last])
+    }
+
+    /// The same in hex and as text, on a line.
+    fn leftovers(&self) -> String {
+        let left = self.left();
+        if left.is_empty() {
             return String::new();
-        };
-        let left = &self.leftovers[..=last];
+        }
         let hex: String = left.iter().map(|byte| format!("{byte:02x} ")).collect();
         let text = left.iter().map(|&byte| match byte {
             b' '..=b'~' => char::from(byte),
@@ -48,22 +64,29 @@ impl<'a> Slot<'a> {
 /// Whether a slot is free, used or neither, what it holds, and its leftovers.
 pub fn meaning(image: &[u8], number: u32, blocks: u32) -> String {
     let slot = Slot::read(image, number);
-    let leftovers = slot.leftovers();
+    let (state, leftovers) = (slot.state(blocks), slot.leftovers());
     if slot.is_free() {
-        return format!("free\n{leftovers}");
+        return format!("{state}\n{leftovers}");
     }
     let outside = out_of_range(slot.inode, blocks);
-    let (named, name) = match slot.name {
-        None => (false, "without an end".to_string()),
-        Some(b"") => (false, "empty".to_string()),
-        Some(name) => (true, standing(image, number, name)),
-    };
-    let state = match named && outside.is_empty() {
-        true => "used",
-        false => "neither free nor used",
+    let name = match slot.name {
+        None => "without an end".to_string(),
+        Some(b"") => "empty".to_string(),
+        Some(name) => standing(image, number, name),
     };
     let inode = slot.inode;
     format!("{state}\ninode: block {inode}{outside}\nname: {name}\n{leftovers}")
+}
+
+/// The same for a program.
+pub fn members(image: &[u8], number: u32, blocks: u32) -> Members {
+    let slot = Slot::read(image, number);
+    vec![
+        ("state", slot.state(blocks).into()),
+        ("inode", slot.inode.into()),
+        ("name", slot.name.map(words::name).into()),
+        ("leftovers", words::name(slot.left()).into()),
+    ]
 }
 
 /// A name, and the lowest slot below that has it too.

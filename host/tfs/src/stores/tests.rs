@@ -19,17 +19,26 @@ fn volume() -> Vec<u8> {
     volume
 }
 
-/// What the commands make: a put, a put in place of a file, a remove, an empty file.
+/// What the commands make: a put, a put in place of a file, a remove, an empty file, a put into a
+/// file, two puts, two removes.
 fn commands() -> Vec<Vec<Change<'static>>> {
     vec![
-        vec![Change::Create(b"C", 1_300), Change::Write(b"C", &NEW)],
+        vec![Change::Create(b"C", 1_300), Change::Write(b"C", 0, &NEW)],
         vec![
             Change::Remove(b"A"),
             Change::Create(b"A", 1_300),
-            Change::Write(b"A", &NEW),
+            Change::Write(b"A", 0, &NEW),
         ],
         vec![Change::Remove(b"B")],
-        vec![Change::Create(b"E", 0), Change::Write(b"E", b"")],
+        vec![Change::Create(b"E", 0), Change::Write(b"E", 0, b"")],
+        vec![Change::Write(b"B", 300, &NEW[..700])],
+        vec![
+            Change::Create(b"C", 600),
+            Change::Write(b"C", 0, &NEW[..600]),
+            Change::Create(b"D", 1),
+            Change::Write(b"D", 0, &NEW[..1]),
+        ],
+        vec![Change::Remove(b"A"), Change::Remove(b"B")],
     ]
 }
 

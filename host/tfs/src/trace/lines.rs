@@ -1,6 +1,7 @@
 //! Records as lines for a person, and back.
 
 use super::append;
+use crate::escapes;
 use proved::trace::{kind, Entry, Record};
 
 /// A record as a line, without its end.
@@ -160,7 +161,7 @@ fn quoted_word(line: &[u8]) -> Result<(Word<'_>, &[u8]), String> {
         match rest {
             [b'"', behind @ ..] => return Ok((Word::Quoted(bytes), behind)),
             [b'\\', behind @ ..] => {
-                let (byte, behind) = escaped(behind)?;
+                let (byte, behind) = escapes::byte(behind)?;
                 bytes.push(byte);
                 rest = behind;
             }
@@ -171,17 +172,6 @@ fn quoted_word(line: &[u8]) -> Result<(Word<'_>, &[u8]), String> {
             [] => return Err("a quote is not closed".to_string()),
         }
     }
-}
-
-/// The byte of an escape behind its backslash.
-fn escaped(line: &[u8]) -> Result<(u8, &[u8]), String> {
-    let digit = |byte: u8| char::from(byte).to_digit(16);
-    match line {
-        [b'x', high, low, behind @ ..] => digit(*high).zip(digit(*low)).map(|pair| (pair, behind)),
-        _ => None,
-    }
-    .map(|((high, low), behind)| ((16 * high + low) as u8, behind))
-    .ok_or_else(|| "a backslash without xNN behind it".to_string())
 }
 
 #[cfg(test)]

@@ -2,13 +2,19 @@
 
 use super::{append, malformed};
 use crate::failure::Failure;
-use crate::files::{self, Prepared};
+use crate::files::{self, Claim, Prepared};
 use crate::image::Image;
+use crate::survey::{cause, Asked};
 use crate::volume::LARGEST_FILE;
 use proved::tfs::{self, Transferred};
 use proved::trace::{kind, Entry, Record};
 use proved::Refusal;
-use std::path::{Path, PathBuf};
+use std::fs::File;
+use std::io::Write;
+use std::path::Path;
+
+/// More bytes than the records of one command have: the trace is not moved for them.
+const RECORDED: usize = 1 << 22;
 
 /// What a read gives.
 pub struct Content {
@@ -21,28 +27,35 @@ pub struct Content {
 /// Requests and their answers, behind those of a trace that they are to be added to.
 #[derive(Default)]
 pub struct Session {
-    /// The file of the trace, if there is to be one.
-    path: Option<PathBuf>,
+    /// The file of the trace, held, if there is to be one.
+    file: Option<Claim>,
     trace: Vec<u8>,
     /// Whether a request has changed the volume.
     changed: bool,
+    /// The cause of the last refusal.
+    cause: String,
 }
 
 impl Session {
-    /// Goes on with the trace of a file, which may be missing; without a path nothing is kept.
+    /// Goes on with the trace of a file, which may be missing; without a path nothing is kept. The
+    /// image is held before the trace, so that no two commands wait for each other.
     pub fn open(path: Option<&Path>, image: &Path) -> Result<Self, Failure> {
         let Some(path) = path else {
             return Ok(Self::default());
         };
         files::apart(path, image, "the image")?;
-        let trace = files::read_if_there(path)?;
+        let file = Claim::new(path)?;
+        let mut trace = Vec::new();
+        let read = files::read_on(file.file(), &mut trace, usize::MAX)
+            .and_then(|()| Ok(process::tried(|| trace.try_reserve_exact(RECORDED))?));
+        read.map_err(|error| Failure::host(path, error))?;
         if let Some(failure) = malformed(path, &trace) {
             return Err(failure);
         }
         Ok(Self {
-            path: Some(path.to_path_buf()),
+            file: Some(file),
             trace,
-            changed: false,
+            ..Self::default()
         })
     }
 
@@ -51,16 +64,22 @@ impl Session {
         &self.trace
     }
 
-    /// Creates a file.
-    pub fn create(&mut self, volume: &mut [u8], name: &[u8], size: u32) -> Result<(), Refusal> {
-        let answer = tfs::create(volume, name, size).map(drop);
+    /// The cause of the last refusal.
+    pub fn cause(&self) -> &str {
+        &self.cause
+    }
+
+    /// Creates a file; its inode number, which a trace does not hold.
+    pub fn create(&mut self, volume: &mut [u8], name: &[u8], size: u32) -> Result<u32, Refusal> {
+        let answer = tfs::create(volume, name, size);
         let entry = Entry {
             kind: kind::CREATE,
             size: size.into(),
             ..Entry::default()
         };
         self.changed |= answer.is_ok();
-        self.note(entry, name, b"", answer.map(|()| 0))?;
+        self.explain(volume, answer.err(), Asked::Create(name, size));
+        self.note(entry, name, b"", answer.map(|_| 0))?;
         answer
     }
 
@@ -72,6 +91,7 @@ impl Session {
             ..Entry::default()
         };
         self.changed |= answer.is_ok();
+        self.explain(volume, answer.err(), Asked::Name(name));
         self.note(entry, name, b"", answer.map(|()| 0))?;
         answer
     }
@@ -94,6 +114,7 @@ impl Session {
             length: length.into(),
             ..Entry::default()
         };
+        self.explain(volume, answer.err(), Asked::At(name, offset));
         self.note(entry, name, &bytes, answer.map(|_| 0))?;
         answer.map(|read| Content {
             bytes,
@@ -116,6 +137,7 @@ impl Session {
             ..Entry::default()
         };
         self.changed |= answer.is_ok();
+        self.explain(volume, answer.err(), Asked::At(name, offset));
         self.note(entry, name, bytes, answer.map(|written| written.count))?;
         answer
     }
@@ -127,6 +149,7 @@ impl Session {
             kind: kind::FREE_BYTES,
             ..Entry::default()
         };
+        self.explain(volume, answer.err(), Asked::Check);
         self.note(entry, b"", b"", answer)?;
         answer
     }
@@ -137,7 +160,7 @@ impl Session {
         let offset = entry.offset as u32;
         // The answer is what is noted.
         let _ = match entry.kind {
-            kind::CREATE => self.create(volume, name, entry.size as u32),
+            kind::CREATE => self.create(volume, name, entry.size as u32).map(drop),
             kind::REMOVE => self.remove(volume, name),
             kind::READ => self
                 .read(volume, name, offset, entry.length as u32)
@@ -145,6 +168,13 @@ impl Session {
             kind::WRITE => self.write(volume, name, offset, bytes).map(drop),
             _ => self.free_bytes(volume).map(drop),
         };
+    }
+
+    /// Keeps the cause of a refusal, while the volume is as it was asked.
+    fn explain(&mut self, volume: &[u8], refusal: Option<Refusal>, asked: Asked<'_>) {
+        if let Some(refusal) = refusal {
+            self.cause = cause(volume, refusal, asked);
+        }
     }
 
     /// Notes a request with its answer. A refusal of this is that of a length of 2^32 or more.
@@ -170,11 +200,12 @@ impl Session {
     /// Ends with a refusal, which is noted, unless the volume was changed before it: that is lost
     /// with the refusal, and a trace of it would not fit the image.
     pub fn refused(self, image: &Image, refusal: Refusal) -> Failure {
+        let failure = image.refused_because(refusal, self.cause.clone());
         let noted = match self.changed {
             true => Ok(()),
             false => self.save(),
         };
-        noted.err().unwrap_or_else(|| image.refused(refusal))
+        noted.err().unwrap_or(failure)
     }
 
     /// Writes the trace alone.
@@ -195,8 +226,9 @@ impl Session {
     }
 
     fn prepare(&self) -> Result<Option<Prepared>, Failure> {
-        let prepare = |path: &PathBuf| files::prepare(path, &self.trace);
-        self.path.as_ref().map(prepare).transpose()
+        let fill = |mut to: &File| to.write_all(&self.trace);
+        let prepare = |file: &Claim| files::replace_by(file.path(), fill);
+        self.file.as_ref().map(prepare).transpose()
     }
 }
 
@@ -213,8 +245,9 @@ mod tests {
         let (image, trace) = (folder.join("v"), folder.join("t"));
         let session = Session::open(Some(&trace), &image).unwrap();
         let saved = session.save_with(&image, || {
+            fs::remove_file(&trace).unwrap();
             fs::create_dir(&trace).unwrap();
-            files::write(&image, b"new")
+            files::write_if(&image, b"new", true)
         });
         let failure = saved.unwrap_err();
         let told = format!(

@@ -2,12 +2,13 @@
 
 #![allow(dead_code)]
 
+pub mod json;
 pub mod rom;
 
 use std::fs;
 use std::io::Write;
 use std::path::{Path, PathBuf};
-use std::process::{Command, Output, Stdio};
+use std::process::{Child, Command, Output, Stdio};
 
 /// A folder that goes when the test ends.
 pub struct Folder(PathBuf);
@@ -52,16 +53,33 @@ impl Folder {
         self.run_with(words, b"")
     }
 
-    /// Runs the tool with these words and bytes on standard input.
-    pub fn run_with(&self, words: &[&str], input: &[u8]) -> Ran {
-        let mut child = self
-            .command(env!("CARGO_BIN_EXE_tfs"))
-            .args(words)
+    /// Starts the tool with words that have no spaces.
+    pub fn start(&self, line: &str) -> Child {
+        self.tool(&line.split_whitespace().collect::<Vec<_>>())
+            .spawn()
+            .unwrap()
+    }
+
+    /// Runs the tool with each of some lines at once.
+    pub fn at_once(&self, lines: impl Iterator<Item = String>) -> Vec<Ran> {
+        let started: Vec<Child> = lines.map(|line| self.start(&line)).collect();
+        let ended = started.into_iter().map(Child::wait_with_output);
+        ended.map(|output| Ran::new(output.unwrap())).collect()
+    }
+
+    /// The tool with these words and pipes to it.
+    pub fn tool(&self, words: &[&str]) -> Command {
+        let mut tool = self.command(env!("CARGO_BIN_EXE_tfs"));
+        tool.args(words)
             .stdin(Stdio::piped())
             .stdout(Stdio::piped())
-            .stderr(Stdio::piped())
-            .spawn()
-            .unwrap();
+            .stderr(Stdio::piped());
+        tool
+    }
+
+    /// Runs the tool with these words and bytes on standard input.
+    pub fn run_with(&self, words: &[&str], input: &[u8]) -> Ran {
+        let mut child = self.tool(words).spawn().unwrap();
         // The tool may end without reading its input.
         let _ = child.stdin.take().unwrap().write_all(input);
         Ran::new(child.wait_with_output().unwrap())
@@ -74,6 +92,13 @@ impl Folder {
         let mut shell = self.command("sh");
         shell.env("PATH", path).args(["-c", line]);
         Ran::new(shell.output().unwrap())
+    }
+
+    /// What a command of the shell shows on a terminal, where there is a program that gives it one.
+    pub fn on_terminal(&self, command: &str) -> Option<String> {
+        let found = self.shell("command -v script").status == 0;
+        let line = format!("script -qec '{command}' /dev/null </dev/null");
+        found.then(|| self.shell(&line).text())
     }
 
     fn command(&self, program: &str) -> Command {
@@ -92,11 +117,14 @@ impl Folder {
         assert!(self.contents() == before, "{line}: the folder has changed");
     }
 
+    /// The names, each with the content if it is a plain file; a pipe would be waited for.
     fn contents(&self) -> Vec<(String, Option<Vec<u8>>)> {
+        let content = |name: &str| {
+            let path = self.path(name);
+            path.is_file().then(|| fs::read(path).ok()).flatten()
+        };
         let names = self.names().into_iter();
-        names
-            .map(|name| (name.clone(), fs::read(self.path(&name)).ok()))
-            .collect()
+        names.map(|name| (name.clone(), content(&name))).collect()
     }
 }
 
@@ -115,7 +143,7 @@ pub struct Ran {
 }
 
 impl Ran {
-    fn new(output: Output) -> Self {
+    pub fn new(output: Output) -> Self {
         Self {
             status: output.status.code().unwrap_or(-1),
             out: output.stdout,
