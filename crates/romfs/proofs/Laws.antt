@@ -19,11 +19,11 @@ use Rattle.romfs_facts.specs.Walked.{volume-of, sound}
 use Rattle.romfs_facts.specs.Theorems.{check-parts, check-number}
 use Rattle.romfs_facts.specs.Find.{match-yes, match-end, match-next}
 use Rattle.romfs_facts.specs.Given.{content-in}
-use Rattle.romfs_check.specs.Known.{Walked}
+use Rattle.romfs_links.specs.Known.{Walked}
 use Rattle.romfs.specs.Told.{faultTold, FaultFits, faultOf, faultAnswer}
 use Rattle.romfs.specs.declared.Fault.{Fault}
 use Rattle.romfs.specs.declared.Fault.the-variants as fault
-use Rattle.romfs_check.specs.Facts.{length-of, whole-volume, reach-room, sound-next}
+use Rattle.romfs_links.specs.Facts.{length-of, whole-volume, reach-room, sound-next}
 
 -- ---- after the check
 pub long : (s : List ℕ) → check s ≡ accepted → 32 ≤ length s

@@ -8,7 +8,7 @@ ghost use Rattle.romfs_spec.specs.Check.{accepted};
 ghost use Rattle.romfs_spec.specs.Check as rules;
 ghost use Rattle.romfs_spec.specs.Requests.{firstOf, isDirectory, matchFrom, findStep, entryStep, contentStep, startOf};
 ghost use Rattle.romfs_facts.specs.Tested.{IsReached};
-ghost use Rattle.romfs_check.specs.Known.{Walked};
+ghost use Rattle.romfs_links.specs.Known.{Walked};
 ghost use Rattle.romfs.specs.Told.{faultOf, findTold, FindFits, entryTold, EntryFits, partTold, partStart, PartFits};
 use crate::EntryAnswer;
 use crate::Fault;
@@ -34,7 +34,7 @@ fn is_directory(image: &[u8], full: usize, dir: usize) -> bool
     if dir == 0 {
         return true;
     }
-    if !romfs_check::is_reached(image, full, dir) {
+    if !romfs_links::seek::is_reached(image, full, dir) {
         return false;
     }
     romfs_headers::file_type_of(image, dir) == 1
@@ -100,7 +100,7 @@ pub fn entry_step(image: &[u8], at: usize) -> EntryAnswer
     ensures { λ r. ⌜ (entryTold r ≡ entryStep (now (image .entry)) at) × EntryFits r ⌝ }
 {
     let full = romfs_headers::full_size(image);
-    if !romfs_check::is_reached(image, full, at) {
+    if !romfs_links::seek::is_reached(image, full, at) {
         return EntryAnswer::Refused(31);
     }
     EntryAnswer::Entry {
@@ -120,7 +120,7 @@ pub fn content_step(image: &[u8], at: usize) -> PartAnswer
     ensures { λ r. ⌜ (partTold r ≡ contentStep (now (image .entry)) at) × (partStart r ≡ startOf (contentAt (now (image .entry)) at) (contentStep (now (image .entry)) at)) × PartFits (length (now (image .entry))) r ⌝ }
 {
     let full = romfs_headers::full_size(image);
-    if !romfs_check::is_reached(image, full, at) {
+    if !romfs_links::seek::is_reached(image, full, at) {
         return PartAnswer::Refused(31);
     }
     if !romfs_headers::has_data(romfs_headers::file_type_of(image, at)) {

@@ -1,23 +1,22 @@
--- Rule 29: the lowest reached header with a bad link is the first that the walk meets.
+-- Rule 29: the lowest reached header with a bad link.
 use Prim.Native.Nat.{ℕ, _-_, _<_}
 use mathlib.Core.Path.{_≡_, refl, sym, ap, _∙_}
-use mathlib.Core.Logic.{_≢_, ⊎-elim}
+use mathlib.Core.Logic.{⊎-elim}
 use mathlib.Core.Bool.{Bool, true, false, not, cond, _&&_, _||_}
 use mathlib.Core.List.{List}
 use native.Mathlib.Omega.{arith}
-use native.Mathlib.Decide.{ℕ-discrete}
 use borrow.Author.Tests.{eq-eqb, ne-eqb, eqb-true, eqb-false, lt-ltb, le-ltb, ltb-true, ltb-false, not-false, not-true}
 use lib.Dec.{T, ltb, eqb}
 use Rattle.list_laws.specs.Test.{of-true, to-true, no-false, or-no-l, or-no-r}
 use Rattle.lists.specs.Lists.{least}
 use Rattle.list_laws.specs.Least.{least-is, least-all, least-hit, least-none, least-below}
-use Rattle.romfs_spec.specs.Layout.{fullSize, firstRoot, fileType, info, isDots}
-use Rattle.romfs_spec.specs.Check.{Verdict, accepted, broken, visitAll, walk, isReached, badLink, links}
-use Rattle.romfs_facts.specs.Tested.{Reached, root, along, inside, IsReached, Linked}
-use Rattle.romfs_facts.specs.Facts.{and-no, and-yes-l, and-yes-r, both, true-false, list-descends, list-first}
+use Rattle.romfs_spec.specs.Layout.{fullSize, fileType, info, isDots}
+use Rattle.romfs_spec.specs.Check.{accepted, broken, walk, isReached, badLink, links}
+use Rattle.romfs_facts.specs.Tested.{Linked}
+use Rattle.romfs_facts.specs.Facts.{and-no, and-yes-l, and-yes-r, both, true-false}
 use Rattle.romfs_facts.specs.Visit.{not-both}
-use Rattle.romfs_facts.specs.Lowest.{Lowest, lowest, Out, fine, fails, out, yes-no}
-use Rattle.romfs_facts.specs.Walked.{Volume, root-in, has-root, met, all-met, sound, visit-none, visit-root, reached-in}
+use Rattle.romfs_facts.specs.Lowest.{lowest, yes-no}
+use Rattle.romfs_facts.specs.Walked.{Volume}
 use Rattle.romfs_facts.specs.Seek.{is-reached, reached-is}
 
 -- ---- a bad link is one that is not linked
@@ -59,26 +58,7 @@ of-linked s p v w h =
     (λ k. rw k)
     (yes-no (eqb (fileType s p) 1 && isDots s p)))
 
--- ---- the second walk
-unfoldable pub linkFault : List ℕ → ℕ → ℕ → ℕ → Verdict
-linkFault s bound depth p = cond (badLink s p) (broken 29 p) accepted
-
-link-fine : (s : List ℕ) (bound depth p : ℕ) → linkFault s bound depth p ≡ accepted → badLink s p ≡ false
-unfolding linkFault
-link-fine s bound depth p e = go (badLink s p) e
-  where
-    go : (b : Bool) → cond b (broken 29 p) accepted ≡ accepted → b ≡ false
-    go true f = absurd (not-both f refl)
-    go false f = refl
-
-link-broken : (s : List ℕ) (bound depth p n x : ℕ) → linkFault s bound depth p ≡ broken n x → (badLink s p ≡ true) × (n ≡ 29) × (x ≡ p)
-unfolding linkFault
-link-broken s bound depth p n x e = go (badLink s p) e
-  where
-    go : (b : Bool) → cond b (broken 29 p) accepted ≡ broken n x → (b ≡ true) × (n ≡ 29) × (x ≡ p)
-    go true f = (refl, (cc), (cc))
-    go false f = absurd (not-both refl f)
-
+-- ---- the lowest
 -- a reached header with a bad link
 abbrev faulty : List ℕ → ℕ → Bool
 faulty s p = isReached s p && badLink s p
@@ -102,45 +82,6 @@ links-at s x h r t below =
     let e : least (λ p. isReached s p && badLink s p) (fullSize s) ≡ x = least-is (faulty s) (fullSize s) x h (of-true (faulty s x) (both (isReached s x) (badLink s x) r t)) (λ i l. not-faulty s i (below i l)) in
     rw (e, lt-ltb x (fullSize s) h)
 
-module _ (s : List ℕ) (v : Volume s) (w : walk s ≡ accepted) where
-  abbrev Low : ℕ → ℕ → Type 0
-  Low n x = Lowest s (linkFault s) (Reached s) (λ q b d r t. sound s v w r) (λ q b d r t z. along r z) (λ q b d r t u. inside r (list-descends s q u) (list-first s q u)) (λ q b d n x e. link-broken s b d q n x e .2) (firstRoot s) (fullSize s) 1 n x
-
-  visit-low : (n x : ℕ) → firstRoot s ≢ fullSize s → visitAll s (linkFault s) ≡ broken n x → Low n x
-  visit-low n x z e =
-      lowest s (linkFault s) (Reached s) (λ q b d r t. sound s v w r) (λ q b d r t y. along r y) (λ q b d r t u. inside r (list-descends s q u) (list-first s q u)) (λ q b d n x e. link-broken s b d q n x e .2) 7
-      (fullSize s - firstRoot s) (firstRoot s) (fullSize s) 1 n x
-      (root z)
-      (omega arith)
-      (root-in s v z)
-      (omega arith)
-      (sym (visit-root s (linkFault s) z) ∙ e)
-
-  links-by : Out (visitAll s (linkFault s)) → visitAll s (linkFault s) ≡ links s
-  links-by (fine a) =
-      a ∙ sym (links-none s (λ p e.
-      let r : IsReached s p = is-reached s p e in
-      link-fine s (r .bound) (r .depth) p (all-met s v (linkFault s) a (has-root (r .reached)) (met s v w (r .reached)))))
-  links-by (fails n x a) =
-      elim (ℕ-discrete (firstRoot s) (fullSize s)) [
-        | yes z ↦ absurd (not-both (visit-none s (linkFault s) z) a)
-        | no z ↦
-            let low : Low n x = visit-low n x z a in
-            let bad = link-broken s (low .b) (low .d) x n x (low .refuses) in
-            let x-in = reached-in s v w (low .known) in
-            a
-            ∙ ap (λ (m : ℕ). broken m x) (bad .1)
-            ∙ sym (links-at s x (omega arith) (reached-is s x v w (record { bound = low .b; depth = low .d; reached = low .known })) (bad .0)
-            (λ p l e.
-            let r : IsReached s p = is-reached s p e in
-            link-fine s (r .bound) (r .depth) p (low .lower p (r .bound) (r .depth) (met s v w (r .reached)) l)))
-      ]
-
-  -- the second walk gives the lowest bad link
-  pub links-visit : visitAll s (linkFault s) ≡ links s
-  links-visit = links-by (out (visitAll s (linkFault s)))
-
--- ---- the lowest
 unless-linked : (s : List ℕ) (i : ℕ) → T (not (faulty s i)) → isReached s i ≡ true → badLink s i ≡ false
 unless-linked s i t e = go (isReached s i) (badLink s i) t e
   where

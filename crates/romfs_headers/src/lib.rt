@@ -144,24 +144,32 @@ fn end_of(image: &[u8], full: usize, n: usize, p: usize) -> usize
     after_name(p + 16, n) + padded(size_of(image, p))
 }
 
-pub fn is_dots(image: &[u8], full: usize, n: usize, p: usize) -> bool
-    requires { ⌜ Head (now image) full n p ⌝ }
+// Whether the name is "." or "..", by its first three bytes.
+pub fn is_dots(image: &[u8], full: usize, p: usize) -> bool
+    requires { ⌜ Whole (now image) full × (p + 32 ≤ full) ⌝ }
     ensures { λ r. ⌜ r ≡ isDots (now (image .entry)) p ⌝ }
 {
-    if name_is(image, p + 16, n, b".") {
+    if image[p + 16] != 46 {
+        return false;
+    }
+    let second = image[p + 17];
+    if second == 0 {
         return true;
     }
-    name_is(image, p + 16, n, b"..")
+    if second != 46 {
+        return false;
+    }
+    image[p + 18] == 0
 }
 
-pub fn goes_down(image: &[u8], full: usize, n: usize, p: usize) -> bool
-    requires { ⌜ Head (now image) full n p ⌝ }
+pub fn goes_down(image: &[u8], full: usize, p: usize) -> bool
+    requires { ⌜ Whole (now image) full × (p + 32 ≤ full) ⌝ }
     ensures { λ r. ⌜ r ≡ descends (now (image .entry)) p ⌝ }
 {
     if file_type_of(image, p) != 1 {
         return false;
     }
-    !is_dots(image, full, n, p)
+    !is_dots(image, full, p)
 }
 
 pub fn has_data(k: usize) -> bool
@@ -316,7 +324,7 @@ pub fn read_entry(image: &[u8], full: usize, bound: usize, left: usize, p: usize
     if bad_next(next, end, bound) {
         return Step::Broken(27);
     }
-    if !goes_down(image, full, n, p) {
+    if !goes_down(image, full, p) {
         return Step::Leaf;
     }
     let first = info_of(image, p);

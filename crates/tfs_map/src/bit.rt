@@ -6,7 +6,6 @@ ghost use Rattle.tfs_spec.specs.Layout.{mapByte, mapBit, setBit};
 use spans::bits::bit_of;
 use spans::bits::with_one;
 use spans::bits::with_zero;
-use tfs_layout::BLOCK;
 
 // The index of the byte that holds bit b.
 fn map_byte(b: usize) -> usize
@@ -60,14 +59,4 @@ pub fn put_bit(map: &mut [u8], b: usize, v: u32)
         return;
     }
     clear_bit(map, b);
-}
-
-// Makes bit b 1, and tells whether it was.
-pub fn claim(map: &mut [u8; BLOCK], b: usize) -> bool
-    requires { ⌜ b < 4096 ⌝ }
-    ensures { λ r. ⌜ (r ≡ mapBit (now (map .entry)) b) × (now (map .exit) ≡ setBit (now (map .entry)) b 1) ⌝ }
-{
-    let was = map_bit(map, b);
-    set_bit(map, b);
-    was
 }

@@ -6,7 +6,8 @@ use std::hint::black_box;
 use reference::tfs::{BLOCK_SIZE, MOST_BLOCKS};
 
 use crate::race::Race;
-use crate::table::{ns, ratio};
+use crate::runs::median;
+use crate::table::Table;
 
 /// Gives a number for a volume, which may be changed but keeps its files and their sizes.
 pub type Ask = dyn FnMut(&mut [u8]) -> u32;
@@ -74,35 +75,39 @@ fn lane(rounds: &[Vec<f64>], way: usize) -> Times {
     let whole = both.clone().map(|[whole, _]| whole);
     Times {
         whole: whole.fold(f64::INFINITY, f64::min),
-        less_check: median(both.map(|[whole, check]| whole - check).collect()),
+        less_check: median(
+            &both
+                .map(|[whole, check]| whole - check)
+                .collect::<Vec<f64>>(),
+        ),
     }
 }
 
-fn median(mut times: Vec<f64>) -> f64 {
-    times.sort_by(f64::total_cmp);
-    times[times.len() / 2]
+/// Two tables of the same rows: whole times, and those less the check.
+pub struct Tables {
+    whole: Table,
+    less: Table,
 }
 
-/// The heads of a table with the times of two programs, whole and less the check.
-pub fn heads(first: &str, one: &str, two: &str) -> String {
-    let heads = format!("{one} ns | {two} ns | {one} / {two}");
-    format!(
-        "{first} | {heads} | less check: {}",
-        heads.replace("| ", "| less check: ")
-    )
-}
+impl Tables {
+    /// Starts them under a title.
+    pub fn new(title: &str, lanes: &[&str]) -> Self {
+        Self {
+            whole: Table::new(title, lanes),
+            less: Table::new(&format!("{title}, less the check"), lanes),
+        }
+    }
 
-/// The cells under them.
-pub fn cells(times: &[Times]) -> [String; 6] {
-    let [one, two] = times else {
-        unreachable!("two programs");
-    };
-    [
-        ns(one.whole),
-        ns(two.whole),
-        ratio(one.whole, two.whole),
-        ns(one.less_check),
-        ns(two.less_check),
-        ratio(one.less_check, two.less_check),
-    ]
+    /// Adds a row with the times of each lane.
+    pub fn row(&mut self, title: &str, times: &[Times]) {
+        let whole: Vec<f64> = times.iter().map(|times| times.whole).collect();
+        let less: Vec<f64> = times.iter().map(|times| times.less_check).collect();
+        self.whole.row(title, &whole);
+        self.less.row(title, &less);
+    }
+
+    /// Both.
+    pub fn done(self) -> Vec<Table> {
+        vec![self.whole, self.less]
+    }
 }

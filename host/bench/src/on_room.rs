@@ -4,7 +4,7 @@ use reference::tfs::{BLOCK_SIZE, LARGEST_FILE, MOST_BLOCKS};
 
 use crate::less_check::{times, Way};
 use crate::linked;
-use crate::table::{ns, ratio, Table};
+use crate::table::Table;
 use crate::volumes::{with_files, with_files_anywhere};
 
 /// The way of the requests of a module.
@@ -49,7 +49,7 @@ fn free_bytes_in_c(image: &[u8]) -> u32 {
 type Make = fn(&[u32], u64) -> Vec<u8>;
 
 /// Free bytes less the check, on volumes that differ in how many of their blocks are used and where these lie.
-pub fn free_bytes(rounds: usize) {
+pub fn free_bytes(rounds: usize) -> Vec<Table> {
     let (half, full) = ([LARGEST_FILE; 16], [LARGEST_FILE; 25]);
     let solid = |sizes: &[u32], _| with_files(MOST_BLOCKS, sizes);
     let scattered = |sizes: &[u32], seed| with_files_anywhere(MOST_BLOCKS, sizes, seed);
@@ -61,21 +61,13 @@ pub fn free_bytes(rounds: usize) {
         ("full, scattered", &full, scattered),
     ];
     let mut ways = ways();
-    let mut table = Table::new(&heads(&ways));
+    let lanes: Vec<&str> = ways.iter().map(|way| way.name).collect();
+    let title = "TFS: free bytes less the check, on volumes of 2 MiB";
+    let mut table = Table::new(title, &lanes);
     for (title, sizes, make) in rows {
         let times = times(rounds, &mut ways, |seed| make(sizes, seed));
         let times: Vec<f64> = times.iter().map(|times| times.less_check).collect();
-        let ratios = times[1..].iter().map(|other| ratio(times[0], *other));
-        let cells = times.iter().map(|time| ns(*time)).chain(ratios);
-        table.row(title.to_owned(), cells);
+        table.row(title, &times);
     }
-    table.print("TFS: free bytes less the check, on volumes of 2 MiB");
-}
-
-fn heads(ways: &[Way]) -> String {
-    let times = ways.iter().map(|way| format!(" | {} ns", way.name));
-    let ratios = ways[1..]
-        .iter()
-        .map(|way| format!(" | proved / {}", way.name));
-    "volume".to_owned() + &times.chain(ratios).collect::<String>()
+    vec![table]
 }

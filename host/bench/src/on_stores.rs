@@ -4,8 +4,8 @@ use std::hint::black_box;
 
 use reference::tfs::{BLOCK_SIZE, LARGEST_FILE, MOST_BLOCKS};
 
-use crate::less_check::{cells, heads, times, Ask, Way};
-use crate::table::Table;
+use crate::less_check::{times, Ask, Tables, Way};
+use crate::table::{Table, BOTH};
 use crate::volumes::with_files;
 
 /// The requests of a program; a store gives the number of its block.
@@ -53,19 +53,14 @@ fn programs() -> [Program; 2] {
 type Request = fn(Program) -> Box<Ask>;
 
 /// Adds a row for a request of both programs, on a volume with files of these sizes.
-fn row(table: &mut Table, rounds: usize, title: &str, sizes: &[u32], request: Request) {
+fn row(tables: &mut Tables, rounds: usize, title: &str, sizes: &[u32], request: Request) {
     let mut ways = programs().map(|program| Way {
         name: program.name,
         request: request(program),
         check: Some(program.check),
     });
     let times = times(rounds, &mut ways, |_| with_files(MOST_BLOCKS, sizes));
-    table.row(title.to_owned(), cells(&times));
-}
-
-fn table(first: &str) -> Table {
-    let [one, two] = programs().map(|program| program.name);
-    Table::new(&heads(first, one, two))
+    tables.row(title, &times);
 }
 
 /// The k-th store of a create of the largest size.
@@ -97,7 +92,7 @@ fn mend(program: Program, spoil: fn(&mut [u8])) -> Box<Ask> {
 }
 
 /// The k-th stores, beside the check alone.
-pub fn stores(rounds: usize) {
+pub fn stores(rounds: usize) -> Vec<Table> {
     let rows: [(&str, Request); 10] = [
         ("the check alone", |program| {
             Box::new(move |image| {
@@ -115,15 +110,16 @@ pub fn stores(rounds: usize) {
         ("write: first of 127 blocks", write::<1>),
         ("write: last of 127 blocks", write::<127>),
     ];
-    let mut table = table("store");
+    let title = "TFS: the k-th store of files of 65,024 bytes, in a volume of 2 MiB with one file";
+    let mut tables = Tables::new(title, &BOTH);
     for (title, request) in rows {
-        row(&mut table, rounds, title, &[LARGEST_FILE], request);
+        row(&mut tables, rounds, title, &[LARGEST_FILE], request);
     }
-    table.print("TFS: the k-th store of files of 65,024 bytes, in a volume of 2 MiB with one file");
+    tables.done()
 }
 
 /// Mends, each after the bits were set again that it clears.
-pub fn mends(rounds: usize) {
+pub fn mends(rounds: usize) -> Vec<Table> {
     let rows: [(&str, Request); 3] = [
         ("consistent", |program| mend(program, |_| {})),
         ("one stray bit", |program| {
@@ -133,18 +129,13 @@ pub fn mends(rounds: usize) {
             mend(program, |map| map.fill(0xFF))
         }),
     ];
-    let mut table = table("map, volume");
+    let mut tables = Tables::new("TFS: mend of a volume of 2 MiB, by its map", &BOTH);
     for (volume, count) in [("one file", 1), ("25 largest files", 25)] {
+        let sizes = vec![LARGEST_FILE; count];
         for (title, request) in rows {
             let title = format!("{title}, {volume}");
-            row(
-                &mut table,
-                rounds,
-                &title,
-                &vec![LARGEST_FILE; count],
-                request,
-            );
+            row(&mut tables, rounds, &title, &sizes, request);
         }
     }
-    table.print("TFS: mend of a volume of 2 MiB");
+    tables.done()
 }

@@ -5,7 +5,7 @@ use std::hint::black_box;
 use reference::tfs::{self as reference_tfs, LARGEST_FILE, MOST_BLOCKS};
 
 use crate::race::Race;
-use crate::table::{ns, pair, ratio, Table};
+use crate::table::{digits, Table, BOTH};
 use crate::volumes::{empty, plain, with_data, with_files, with_leftovers, Made};
 
 /// Times an operation of both programs, each on its own copy of an image.
@@ -40,12 +40,12 @@ macro_rules! create_and_remove {
 }
 
 /// The requests that move no content, on volumes of 2 MiB.
-pub fn requests(rounds: usize) {
-    let mut table = Table::new("request, volume | proved ns | reference ns | proved / reference");
+pub fn requests(rounds: usize) -> Vec<Table> {
+    let mut table = Table::new("TFS: a volume of 2 MiB", &BOTH);
     for (title, image) in plain() {
         let full = title.starts_with("25");
         let mut row = |request: &str, times: Vec<f64>| {
-            table.row(format!("{request}, {title}"), pair(&times));
+            table.row(&format!("{request}, {title}"), &times);
         };
         row("check", check(rounds, &image));
         row("free bytes", free_bytes(rounds, &image));
@@ -58,15 +58,15 @@ pub fn requests(rounds: usize) {
                 create_and_remove!(reference_tfs, size, full),
             );
             row(
-                &format!("create and remove {} bytes", ns(size.into())),
+                &format!("create and remove {} bytes", digits(size.into())),
                 times,
             );
         }
     }
     let left = with_leftovers();
     let times = check(rounds, &left.image);
-    table.row(format!("check, {}", left.title), pair(&times));
-    table.print("TFS: a volume of 2 MiB");
+    table.row(&format!("check, {}", left.title), &times);
+    vec![table]
 }
 
 /// Times a request of both programs that is given nothing but an image.
@@ -96,27 +96,27 @@ fn list(rounds: usize, image: &[u8]) -> Vec<f64> {
 }
 
 /// Read and write of a few bytes of a file.
-pub fn short_transfers(rounds: usize) {
+pub fn short_transfers(rounds: usize) -> Vec<Table> {
     const SIZE: usize = 64;
-    let mut table = Table::new("request, volume | proved ns | reference ns | proved / reference");
+    let mut table = Table::new("TFS: read and write of 64 bytes", &BOTH);
     for made in with_data() {
         let (read, write) = (read(rounds, &made, SIZE), write(rounds, &made, SIZE));
-        table.row(format!("read, {}", made.title), pair(&read));
-        table.row(format!("write, {}", made.title), pair(&write));
+        table.row(&format!("read, {}", made.title), &read[..2]);
+        table.row(&format!("write, {}", made.title), &write[..2]);
     }
     let left = with_leftovers();
     let times = read(rounds, &left, SIZE);
-    table.row(format!("read, {}", left.title), pair(&times));
-    table.print(&format!("TFS: read and write of {SIZE} bytes"));
+    table.row(&format!("read, {}", left.title), &times[..2]);
+    vec![table]
 }
 
 /// Read and write of a whole file of the largest size, beside a plain copy.
-pub fn transfers(rounds: usize) {
+pub fn transfers(rounds: usize) -> Vec<Table> {
     const SIZE: usize = LARGEST_FILE as usize;
-    let heads =
-        "request, volume | proved ns | reference ns | copy ns | proved / reference | proved / copy";
-    let mut whole = Table::new(heads);
-    let mut less = Table::new(heads);
+    const LANES: [&str; 3] = ["proved", "reference", "copy"];
+    let title = "TFS: read and write of 65,024 bytes";
+    let mut whole = Table::new(title, &LANES);
+    let mut less = Table::new(&format!("{title}, less the check"), &LANES);
     for made in with_data() {
         for (request, times) in [
             ("read", read(rounds, &made, SIZE)),
@@ -125,22 +125,12 @@ pub fn transfers(rounds: usize) {
             let [ours, theirs, ours_check, theirs_check, copy] = times[..] else {
                 unreachable!("five lanes");
             };
-            let row = |table: &mut Table, ours: f64, theirs: f64| {
-                let cells = [
-                    ns(ours),
-                    ns(theirs),
-                    ns(copy),
-                    ratio(ours, theirs),
-                    ratio(ours, copy),
-                ];
-                table.row(format!("{request}, {}", made.title), cells);
-            };
-            row(&mut whole, ours, theirs);
-            row(&mut less, ours - ours_check, theirs - theirs_check);
+            let title = format!("{request}, {}", made.title);
+            whole.row(&title, &[ours, theirs, copy]);
+            less.row(&title, &[ours - ours_check, theirs - theirs_check, copy]);
         }
     }
-    whole.print("TFS: read and write of 65,024 bytes");
-    less.print("TFS: the same, less the check of the same volume");
+    vec![whole, less]
 }
 
 fn read(rounds: usize, made: &Made, size: usize) -> Vec<f64> {
@@ -175,23 +165,23 @@ fn write(rounds: usize, made: &Made, size: usize) -> Vec<f64> {
 }
 
 /// How the check grows with the number of blocks and of files.
-pub fn growth(rounds: usize) {
-    let heads = "blocks | proved ns | reference ns | proved / reference";
-    let mut blocks = Table::new(heads);
+pub fn growth(rounds: usize) -> Vec<Table> {
+    let mut blocks = Table::new("TFS: check of an empty volume, by blocks", &BOTH);
     for count in [64, 256, 1024, MOST_BLOCKS] {
         let times = check(rounds, &empty(count));
-        blocks.row(count.to_string(), pair(&times));
+        blocks.row(&digits(count as f64), &times);
     }
-    blocks.print("TFS: check of an empty volume");
-    for size in [1_000, LARGEST_FILE] {
-        let mut files = Table::new(&heads.replace("blocks", "files"));
-        for count in [0, 1, 2, 4, 8, 12, 16, 20, 25] {
-            let times = check(rounds, &with_files(MOST_BLOCKS, &vec![size; count]));
-            files.row(count.to_string(), pair(&times));
-        }
-        let size = ns(size.into());
-        files.print(&format!(
-            "TFS: check of 4,096 blocks with files of {size} bytes"
-        ));
+    vec![blocks, files(rounds, 1_000), files(rounds, LARGEST_FILE)]
+}
+
+/// The check by the number of files of a size.
+fn files(rounds: usize, size: u32) -> Table {
+    let bytes = digits(size.into());
+    let title = format!("TFS: check of 4,096 blocks, by files of {bytes} bytes");
+    let mut table = Table::new(&title, &BOTH);
+    for count in [0, 1, 2, 4, 8, 12, 16, 20, 25] {
+        let times = check(rounds, &with_files(MOST_BLOCKS, &vec![size; count]));
+        table.row(&digits(count as f64), &times);
     }
+    table
 }

@@ -5,8 +5,8 @@ use std::hint::black_box;
 use reference::tfs::BLOCK_SIZE;
 use reference::timing::{self, Timing};
 
-use crate::less_check::{cells, heads, times, Ask, Way};
-use crate::table::Table;
+use crate::less_check::{times, Ask, Tables, Way};
+use crate::table::{Table, BOTH};
 use crate::volumes::small;
 
 /// The requests of a program, all granted; a boot gives one of its values.
@@ -155,7 +155,7 @@ fn open_lid_block(program: Program) -> Box<Ask> {
 }
 
 /// The requests, beside the check alone.
-pub fn requests(rounds: usize) {
+pub fn requests(rounds: usize) -> Vec<Table> {
     let rows: [(&str, bool, Request); 8] = [
         ("the check alone", true, check),
         ("boot", true, boot),
@@ -170,8 +170,8 @@ pub fn requests(rounds: usize) {
         ),
         ("block of open lid", true, open_lid_block),
     ];
-    let [one, two] = programs().map(|program| program.name);
-    let mut table = Table::new(&heads("request", one, two));
+    let title = "Timing file: a volume of 64 KiB with seven other files";
+    let mut tables = Tables::new(title, &BOTH);
     for (title, stored, request) in rows {
         let mut ways = programs().map(|program| Way {
             name: program.name,
@@ -179,7 +179,7 @@ pub fn requests(rounds: usize) {
             check: Some(program.check),
         });
         let times = times(rounds, &mut ways, |_| volume(stored));
-        table.row(title.to_owned(), cells(&times));
+        tables.row(title, &times);
     }
-    table.print("Timing file: a volume of 64 KiB with seven other files");
+    tables.done()
 }

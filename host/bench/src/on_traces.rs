@@ -6,7 +6,7 @@ use reference::tfs::{self, LARGEST_FILE, MOST_BLOCKS};
 use reference::trace::{self, write_all, Draft, Record};
 
 use crate::race::Race;
-use crate::table::{ns, pair, ratio, Table};
+use crate::table::{Table, BOTH};
 use crate::volumes::{empty, plain, with_files};
 
 /// A session that gives back what it takes, so that it can be replayed again and again.
@@ -73,10 +73,9 @@ fn moving(title: &'static str, length: usize, times: usize) -> Session {
 }
 
 /// Replays of sessions, beside those of the reference and the same requests one by one.
-pub fn replays(rounds: usize) {
-    let heads = "session, volume | records | proved ns | reference ns | proved / reference \
-                 | one by one ns | proved / one by one";
-    let mut table = Table::new(heads);
+pub fn replays(rounds: usize) -> Vec<Table> {
+    let lanes = ["proved", "reference", "one by one"];
+    let mut table = Table::new("Traces: replay on a volume of 2 MiB", &lanes);
     let [_, (_, typical), (_, full)] = plain();
     let short = "write and read 64 bytes";
     let long = "write and read 65,024 bytes";
@@ -96,14 +95,10 @@ pub fn replays(rounds: usize) {
     for (volume, image, session) in rows {
         let times = replay(rounds, image, &session.trace);
         let records = trace::read_all(&session.trace).expect("a trace").len();
-        let cells = [ns(records as f64)].into_iter().chain(pair(&times));
-        let one_by_one = [ns(times[2]), ratio(times[0], times[2])];
-        table.row(
-            format!("{}, {volume}", session.title),
-            cells.chain(one_by_one),
-        );
+        let title = format!("{}, {volume}: {records} records", session.title);
+        table.row(&title, &times);
     }
-    table.print("Traces: replay on a volume of 2 MiB");
+    vec![table]
 }
 
 fn replay(rounds: usize, image: &[u8], trace: &[u8]) -> Vec<f64> {
@@ -161,8 +156,8 @@ fn request(image: &mut [u8], record: &Record<'_>, buffer: &mut [u8]) {
 }
 
 /// Records by themselves.
-pub fn records(rounds: usize) {
-    let mut table = Table::new("record | proved ns | reference ns | proved / reference");
+pub fn records(rounds: usize) -> Vec<Table> {
+    let mut table = Table::new("Traces: a record read and written", &BOTH);
     let bytes = vec![0x5A; LARGEST_FILE as usize];
     let write = |length: usize| Record::Write {
         name: b"TIMING",
@@ -190,10 +185,10 @@ pub fn records(rounds: usize) {
     ];
     for (title, record) in rows {
         let (read, written) = (read(rounds, &record), written(rounds, &record));
-        table.row(format!("read, {title}"), pair(&read));
-        table.row(format!("written, {title}"), pair(&written));
+        table.row(&format!("read, {title}"), &read);
+        table.row(&format!("written, {title}"), &written);
     }
-    table.print("Traces: a record read and written");
+    vec![table]
 }
 
 fn read(rounds: usize, record: &Record<'_>) -> Vec<f64> {

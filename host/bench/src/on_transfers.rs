@@ -4,7 +4,7 @@ use std::hint::black_box;
 
 use reference::tfs::{LARGEST_FILE, MOST_BLOCKS};
 
-use crate::less_check::{cells, heads, times, Times, Way};
+use crate::less_check::{times, Tables, Times, Way};
 #[cfg(before)]
 use crate::linked;
 use crate::table::Table;
@@ -75,7 +75,7 @@ const FEW: [Range; 7] = [
 ];
 
 /// Reads and writes of few bytes.
-pub fn few_bytes(rounds: usize) {
+pub fn few_bytes(rounds: usize) -> Vec<Table> {
     let programs = [
         program!("proved", proved::tfs, |moved: proved::tfs::Transferred| {
             moved.count
@@ -86,13 +86,13 @@ pub fn few_bytes(rounds: usize) {
             |moved: reference::tfs::Transferred| moved.count
         ),
     ];
-    let table = compared(rounds, programs, &FEW);
-    table.print("TFS: read and write of few bytes, in a volume of 2 MiB with one file");
+    let title = "TFS: read and write of few bytes, in a volume of 2 MiB with one file";
+    compared(rounds, title, programs, &FEW)
 }
 
 /// Reads and writes of few bytes and of a whole file, beside the older library.
 #[cfg(before)]
-pub fn beside_before(rounds: usize) {
+pub fn beside_before(rounds: usize) -> Vec<Table> {
     const ALL: usize = LARGEST_FILE as usize;
     let whole = [
         Range::solid("65,024 bytes", 0, ALL),
@@ -103,23 +103,22 @@ pub fn beside_before(rounds: usize) {
         program!("proved", linked::now, |count| count),
         program!("before", linked::before, |count| count),
     ];
-    let table = compared(rounds, programs, &ranges);
-    table.print("TFS: read and write beside the older library, in a volume of 2 MiB with one file");
+    let title = "TFS: read and write beside the older library, in a volume of 2 MiB with one file";
+    compared(rounds, title, programs, &ranges)
 }
 
 /// The times of two programs, and how many times as long the first takes.
-fn compared(rounds: usize, programs: [Program; 2], ranges: &[Range]) -> Table {
-    let [one, two] = programs.map(|program| program.name);
-    let mut table = Table::new(&heads("request", one, two));
+fn compared(rounds: usize, title: &str, programs: [Program; 2], ranges: &[Range]) -> Vec<Table> {
+    let mut tables = Tables::new(title, &programs.map(|program| program.name));
     for range in ranges {
         let mut row = |request: &str, mut ways: [Way; 2]| {
             let times = measured(rounds, range, &mut ways);
-            table.row(format!("{request}, {}", range.title), cells(&times));
+            tables.row(&format!("{request}, {}", range.title), &times);
         };
         row("read", programs.map(|program| reading(program, range)));
         row("write", programs.map(|program| writing(program, range)));
     }
-    table
+    tables.done()
 }
 
 fn reading(program: Program, range: &Range) -> Way {

@@ -1,24 +1,36 @@
 use std::hint::black_box;
-use std::time::Instant;
+use std::time::{Duration, Instant};
+
+use crate::clock;
 
 /// A batch lasts about so long, unless one operation lasts longer: short enough to fall between
 /// two turns of other programs.
 const BATCH_NS: f64 = 100_000.0;
 
-/// After these seconds no further round begins, but five are made in any case.
-const LONG: u64 = 4;
+/// After so long no further round begins, unless another time is given.
+const LONG: Duration = Duration::from_secs(2);
 
 /// Operations that are timed in turn, so that all of them meet the same load of the machine.
 pub struct Race<'a> {
     lanes: Vec<Box<dyn FnMut() + 'a>>,
     rounds: usize,
+    longest: Duration,
 }
 
 impl<'a> Race<'a> {
     /// Starts a measurement of so many rounds.
     pub fn new(rounds: usize) -> Self {
-        let lanes = Vec::new();
-        Self { lanes, rounds }
+        Self {
+            lanes: Vec::new(),
+            rounds,
+            longest: LONG,
+        }
+    }
+
+    /// Begins no further round after so long.
+    pub fn within(mut self, longest: Duration) -> Self {
+        self.longest = longest;
+        self
     }
 
     /// Adds an operation.
@@ -45,7 +57,7 @@ impl<'a> Race<'a> {
         let batches: Vec<usize> = self.lanes.iter_mut().map(batch).collect();
         let mut rounds = Vec::new();
         let start = Instant::now();
-        while rounds.len() < self.rounds && (rounds.len() < 5 || start.elapsed().as_secs() < LONG) {
+        while rounds.is_empty() || rounds.len() < self.rounds && start.elapsed() < self.longest {
             let lanes = self.lanes.iter_mut().zip(&batches);
             rounds.push(lanes.map(|(lane, times)| timed(lane, *times)).collect());
         }
@@ -55,16 +67,18 @@ impl<'a> Race<'a> {
 
 /// How often an operation is run in a round.
 fn batch(lane: &mut Box<dyn FnMut() + '_>) -> usize {
-    timed(lane, 1);
+    if timed(lane, 1) > 100.0 * BATCH_NS {
+        return 1;
+    }
     let once = timed(lane, 3).max(1.0);
     (BATCH_NS / once).clamp(1.0, 1_000_000.0) as usize
 }
 
 /// The nanoseconds of one operation out of so many.
 fn timed(lane: &mut Box<dyn FnMut() + '_>, times: usize) -> f64 {
-    let start = Instant::now();
+    let start = clock::now();
     for _ in 0..times {
         lane();
     }
-    start.elapsed().as_nanos() as f64 / times as f64
+    (clock::now() - start).as_nanos() as f64 / times as f64
 }

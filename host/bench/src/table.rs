@@ -1,47 +1,49 @@
-use std::iter::once;
+//! The times of one section as they are measured.
 
-/// A table in Markdown.
+use crate::fact::Fact;
+
+/// Rows of times, one for each lane.
 pub struct Table {
-    heads: Vec<String>,
-    rows: Vec<Vec<String>>,
+    title: String,
+    lanes: Vec<String>,
+    facts: Vec<Fact>,
 }
 
 impl Table {
-    /// Starts a table; the heads stand between bars.
-    pub fn new(heads: &str) -> Self {
-        let heads = heads.split('|').map(|head| head.trim().to_owned());
+    /// Starts a table. In the tables of a report the first lane is compared with each of the others.
+    pub fn new(title: &str, lanes: &[&str]) -> Self {
         Self {
-            heads: heads.collect(),
-            rows: Vec::new(),
+            title: title.to_owned(),
+            lanes: lanes.iter().map(|lane| (*lane).to_owned()).collect(),
+            facts: Vec::new(),
         }
     }
 
-    /// Adds a row with a title.
-    pub fn row(&mut self, title: String, cells: impl IntoIterator<Item = String>) {
-        let row: Vec<String> = once(title).chain(cells).collect();
-        assert_eq!(row.len(), self.heads.len());
-        self.rows.push(row);
-    }
-
-    /// Prints the table under a title.
-    pub fn print(&self, title: &str) {
-        println!("\n### {title}\n\n| {} |", self.heads.join(" | "));
-        let numbers = (1..self.heads.len()).map(|_| "---:|").collect::<String>();
-        println!("|---|{numbers}");
-        for row in &self.rows {
-            println!("| {} |", row.join(" | "));
+    /// Adds a row with the nanoseconds of each lane.
+    pub fn row(&mut self, title: &str, times: &[f64]) {
+        assert_eq!(times.len(), self.lanes.len());
+        for (lane, ns) in self.lanes.iter().zip(times) {
+            self.facts.push(Fact {
+                section: self.title.clone(),
+                row: title.to_owned(),
+                lane: lane.clone(),
+                ns: *ns,
+            });
         }
     }
+
+    /// What was measured, in order.
+    pub fn facts(self) -> Vec<Fact> {
+        self.facts
+    }
 }
 
-/// The cells for the times of the proved request and of the reference.
-pub fn pair(times: &[f64]) -> [String; 3] {
-    [ns(times[0]), ns(times[1]), ratio(times[0], times[1])]
-}
+/// The lanes of most tables.
+pub const BOTH: [&str; 2] = ["proved", "reference"];
 
-/// Nanoseconds with separators.
-pub fn ns(time: f64) -> String {
-    let digits = format!("{:.0}", time.max(0.0));
+/// A whole number with separators.
+pub fn digits(number: f64) -> String {
+    let digits = format!("{:.0}", number.max(0.0));
     let mut out = String::new();
     for (index, digit) in digits.chars().enumerate() {
         if index > 0 && (digits.len() - index) % 3 == 0 {
@@ -52,10 +54,24 @@ pub fn ns(time: f64) -> String {
     out
 }
 
-/// How many times as long the first is; nothing if one of them is below the clock's noise.
-pub fn ratio(time: f64, other: f64) -> String {
-    if time < 1.0 || other < 1.0 {
-        return "-".to_owned();
+#[cfg(test)]
+mod tests {
+    use super::*;
+
+    #[test]
+    fn digits_stand_in_threes() {
+        let shown = [0.0, 7.4, 999.6, 65_024.0, 1_048_576.0, -3.0].map(digits);
+        assert_eq!(shown, ["0", "7", "1,000", "65,024", "1,048,576", "0"]);
     }
-    format!("{:.2}", time / other)
+
+    #[test]
+    fn a_row_gives_a_fact_for_each_lane() {
+        let mut table = Table::new("section", &BOTH);
+        table.row("row", &[1.0, 2.0]);
+        let lines: Vec<String> = table.facts().iter().map(Fact::to_string).collect();
+        assert_eq!(
+            lines,
+            ["section\trow\tproved\t1", "section\trow\treference\t2"]
+        );
+    }
 }

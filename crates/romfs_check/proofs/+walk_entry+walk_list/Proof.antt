@@ -4,9 +4,10 @@ use mathlib.Core.Path.{sym, ap, _∙_}
 use native.Mathlib.Omega.{arith}
 use borrow.Fn.Kinds.{In}
 use borrow.Fn.PlainCycle.{Measures, is, falls, and}
-use Rattle.romfs_check.specs.Known.{Here, testOf}
+use Rattle.romfs_spec.specs.Check.{fault}
+use Rattle.romfs_links.specs.Window.{Window}
+use Rattle.romfs_check.specs.Known.{Here}
 use Rattle.romfs_check.specs.Told.{verdictTold}
-use Rattle.romfs_check.specs.Marks.{Marked}
 use Rattle.romfs_check.proofs.Laws as laws
 use Rattle.romfs_check.proofs.walk_entry.Reads as walk-entry
 use Rattle.romfs_check.proofs.walk_entry.Kinds as walk-entry-kinds
@@ -49,70 +50,69 @@ L t = (walk-entry-below t, walk-entry.Post, next-of-reads.Asked, next-of-reads.L
 
 walk-entry-sub-walk-list : (t : ℕ) → walk-entry-lts.Need-sub-walk-list (E t) (walk-entry-at t) walk-entry.Post
 walk-entry-sub-walk-list t c =
-    let h = c .before .before .before .before .before .before .pre .1 .0 in
-    laws.some-left _ _ _ _ _ _ h _ _ (laws.meets-by _ _ _ _ _ (c .before .first .given .1) (c .before .before .before .step-at .ensures .0))
+    let h = c .before .before .before .before .before .before .before .before .before .pre .1 .0 in
+    laws.some-left _ _ _ _ _ h _ (c .before .before .before .before .before .step-at .ensures .0) _ _ (c .before .first .given .1)
 
 walk-entry-walk-list-requires : (t : ℕ) → walk-entry-lts.Need-walk-list-requires (E t) (walk-entry-at t) walk-entry.Post
 walk-entry-walk-list-requires t c κs =
-    let h = c .before .before .before .before .before .before .before .pre .1 .0 in
-    let r = laws.meets-by _ _ _ _ _ (c .before .before .first .given .1) (c .before .before .before .before .step-at .ensures .0) in
-    let k = laws.some-left _ _ _ _ _ _ h _ _ r in
-    (search needs, (laws.step-below _ _ _ _ _ _ h _ _ r, c .before .before .before .before .step-at .ensures .1))
+    let h = c .before .before .before .before .before .before .before .before .before .before .pre .1 .0 in
+    let y = c .before .before .before .before .before .before .step-at .ensures in
+    let k = laws.some-left _ _ _ _ _ h _ (y .0) _ _ (c .before .before .first .given .1) in
+    (search needs, (laws.step-below _ _ _ _ _ h _ (y .0) _ _ (c .before .before .first .given .1), y .1))
 
 walk-entry-returns : (t : ℕ) → walk-entry-lts.Need-returns (E t) (walk-entry-at t) walk-entry.Post
 walk-entry-returns t c =
-    let y = c .before .before .before .step-at .ensures in
-    (laws.step-broken _ _ _ _ _ _ (c .before .before .before .before .before .before .pre .1 .0) _ (laws.meets-by _ _ _ _ _ (c .before .n .given .1) (y .0)), y .1)
+    let y = c .before .before .before .before .before .step-at .ensures in
+    (laws.step-broken _ _ _ _ _ (c .before .before .before .before .before .before .before .before .before .pre .1 .0) _ (y .0) _ (c .before .n .given .1), y .1)
 
 walk-entry-returns-2 : (t : ℕ) → walk-entry-lts.Need-returns-2 (E t) (walk-entry-at t) walk-entry.Post
 walk-entry-returns-2 t c =
-    let y = c .before .before .step-at .ensures in
-    (laws.step-leaf _ _ _ _ _ _ (c .before .before .before .before .before .pre .1 .0) (laws.meets-by _ _ _ _ _ (c .enum-told .given .1) (y .0)), y .1)
+    let y = c .before .before .before .before .step-at .ensures in
+    (laws.step-leaf _ _ _ _ _ (c .before .before .before .before .before .before .before .before .pre .1 .0) _ (y .0) (c .enum-told .given .1), y .1)
 
 walk-entry-returns-3 : (t : ℕ) → walk-entry-lts.Need-returns-3 (E t) (walk-entry-at t) walk-entry.Post
 walk-entry-returns-3 t c =
-    let h = c .before .before .before .before .before .before .before .before .pre .1 .0 in
-    let r = laws.meets-by _ _ _ _ _ (c .before .before .before .first .given .1) (c .before .before .before .before .before .step-at .ensures .0) in
-    (c .walk-list .ensures .0 ∙ laws.step-list _ _ _ _ _ _ h _ _ r, c .walk-list .ensures .1)
+    let h = c .before .before .before .before .before .before .before .before .before .before .before .before .before .pre .1 .0 in
+    (c .before .before .walk-list .ensures .0 ∙ laws.step-list _ _ _ _ _ h _ (c .before .before .before .before .before .before .before .before .before .step-at .ensures .0) _ _ (c .before .before .before .before .before .first .given .1), c .before .before .walk-list .ensures .1)
 
 abbrev walk-list-Inv-loop : walk-list-lts.InvT-loop
-walk-list-Inv-loop image full at bound left links marks₀ p₀ marks p = Here image full p bound left links × laws.Rest image (testOf image links) left bound at p × Marked image marks
+walk-list-Inv-loop image full at bound left bits₀ p₀ bits p = Here image full p bound left × laws.Rest image (fault image) left bound at p × Window image 0 bits
 
 abbrev walk-list-μ-loop : walk-list-lts.MeasureT-loop
-walk-list-μ-loop image full at bound left links marks₀ p₀ marks p = bound - p
+walk-list-μ-loop image full at bound left bits₀ p₀ bits p = bound - p
 
 walk-list-returns : (t : ℕ) → walk-list-lts.Need-returns (L t) (walk-list-at t) walk-list.Post walk-list-Inv-loop walk-list-μ-loop
 walk-list-returns t c =
-    let l = c .before .before .before .before .before .loop in
-    let y = c .before .before .before .walk-entry .ensures in
+    let l = c .before .before .before .before .before .before .before .loop in
+    let y = c .before .before .before .before .before .walk-entry .ensures in
     (laws.rest-fault _ _ _ _ _ _ (l .inv .1) (l .inv .0 .before) _ _ (ap verdictTold (sym (c .before .n .given .1)) ∙ y .0), y .1)
 
 walk-list-next-of-requires : (t : ℕ) → walk-list-lts.Need-next-of-requires (L t) (walk-list-at t) walk-list.Post walk-list-Inv-loop walk-list-μ-loop
 walk-list-next-of-requires t c κs =
-    let h = c .before .before .before .before .loop .inv .0 in
-    let k = laws.visited-room _ _ _ _ _ _ h (ap verdictTold (sym (c .enum-told .given .1)) ∙ c .before .before .walk-entry .ensures .0) in
-    omega (arith, k, h .within, h .ready .whole .inside)
+    let h = c .before .before .before .before .before .before .loop .inv .0 in
+    let k = laws.visited-room _ _ _ _ _ h (ap verdictTold (sym (c .enum-told .given .1)) ∙ c .before .before .before .before .walk-entry .ensures .0) in
+    omega (arith, k, h .within, h .whole .inside)
 
 walk-list-returns-2 : (t : ℕ) → walk-list-lts.Need-returns-2 (L t) (walk-list-at t) walk-list.Post walk-list-Inv-loop walk-list-μ-loop
 walk-list-returns-2 t c =
-    let l = c .before .before .before .before .before .before .loop in
-    let y = c .before .before .before .before .walk-entry .ensures in
+    let l = c .before .before .before .before .before .before .before .before .loop in
+    let y = c .before .before .before .before .before .before .walk-entry .ensures in
     (laws.rest-last _ _ _ _ _ _ (l .inv .1) (l .inv .0 .before) (ap verdictTold (sym (c .before .before .enum-told .given .1)) ∙ y .0) (sym (c .before .next-of .ensures .0) ∙ c .if1 .taken), y .1)
 
 walk-list-loop-less : (t : ℕ) → walk-list-lts.Need-loop-less (L t) (walk-list-at t) walk-list.Post walk-list-Inv-loop walk-list-μ-loop
 walk-list-loop-less t c =
-    let l = c .before .before .before .before .before .before .loop in
-    let y = c .before .before .before .before .walk-entry .ensures in
-    let n = laws.visited-next _ _ _ _ _ _ (l .inv .0) (ap verdictTold (sym (c .before .before .enum-told .given .1)) ∙ y .0) _ (c .before .next-of .ensures .0) (c .if1 .left) in
+    let l = c .before .before .before .before .before .before .before .before .loop in
+    let y = c .before .before .before .before .before .before .walk-entry .ensures in
+    let n = laws.visited-next _ _ _ _ _ (l .inv .0) (ap verdictTold (sym (c .before .before .enum-told .given .1)) ∙ y .0) _ (c .before .next-of .ensures .0) (c .if1 .left) in
     omega (arith, n .0, n .1 .before)
 
 walk-list-loop-again : (t : ℕ) → walk-list-lts.Need-loop-again (L t) (walk-list-at t) walk-list.Post walk-list-Inv-loop walk-list-μ-loop
 walk-list-loop-again t c =
-    let l = c .before .before .before .before .before .before .loop in
-    let y = c .before .before .before .before .walk-entry .ensures in
+    let l = c .before .before .before .before .before .before .before .before .loop in
+    let y = c .before .before .before .before .before .before .walk-entry .ensures in
     let e = ap verdictTold (sym (c .before .before .enum-told .given .1)) ∙ y .0 in
     let f = c .before .next-of .ensures .0 in
-    let n = laws.visited-next _ _ _ _ _ _ (l .inv .0) e _ f (c .if1 .left) in
+    let n = laws.visited-next _ _ _ _ _ (l .inv .0) e _ f (c .if1 .left) in
     (n .1, laws.rest-next _ _ _ _ _ _ (l .inv .1) (l .inv .0 .before) e _ f (c .if1 .left) (n .0), y .1)
 
 pub +walk-entry+walk-list-spec : {M : Type 1} → statement M
@@ -127,17 +127,22 @@ pub +walk-entry+walk-list-spec : {M : Type 1} → statement M
     (λ c. search needs)
     (walk-entry-sub-walk-list t)
     (walk-entry-walk-list-requires t)
+    (λ c. search needs)
     (walk-entry-returns t)
+    (λ c. search needs)
     (walk-entry-returns-2 t)
+    (λ c. search needs)
     (walk-entry-returns-3 t))
     (λ t.
     walk-list-lts.spec (L t) (walk-list-at t) walk-list.Post walk-list-Inv-loop walk-list-μ-loop
-    (λ c. (c .before .pre .1 .0, laws.rest-all _ _ _ _ _, c .before .pre .1 .1))
+    (λ c. (c .before .before .pre .1 .0, laws.rest-all _ _ _ _ _, c .before .before .pre .1 .1))
     (λ c κs. search needs)
+    (λ c. search needs)
     (λ c. search needs)
     (walk-list-returns t)
     (λ c. search needs)
     (walk-list-next-of-requires t)
+    (λ c. search needs)
     (walk-list-returns-2 t)
     (walk-list-loop-less t)
     (walk-list-loop-again t))

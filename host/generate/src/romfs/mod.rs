@@ -5,6 +5,7 @@ mod faults;
 mod forest;
 mod grid;
 mod large;
+mod links;
 mod tree;
 mod words;
 
@@ -13,5 +14,6 @@ pub use faults::{damage_rom, damage_rom_twice, scramble_rom};
 pub use forest::forest_rom;
 pub use grid::grid_rom;
 pub use large::{flat_rom, tree_rom};
+pub use links::{plain_rom, Family, FAMILIES};
 pub use tree::{rom, RomPlan};
 pub use words::seal_volume;

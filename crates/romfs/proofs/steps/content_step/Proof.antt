@@ -8,8 +8,8 @@ use Rattle.romfs_spec.specs.Layout.{contentAt}
 use Rattle.romfs_spec.specs.Check.{isReached}
 use Rattle.romfs_spec.specs.Requests.{granted, contentStep, startOf}
 use Rattle.romfs_facts.specs.Seek.{is-reached}
-use Rattle.romfs_check.specs.Known.{Walked}
-use Rattle.romfs_check.specs.Facts.{reach-room}
+use Rattle.romfs_links.specs.Known.{Walked}
+use Rattle.romfs_links.specs.Facts.{reach-room}
 use Rattle.romfs.proofs.Laws as laws
 use Rattle.romfs.proofs.steps.content_step.Statement.{statement}
 use Rattle.romfs.proofs.steps.content_step.Tie as tie

@@ -7,8 +7,8 @@ use denote.Ref.{now}
 use Rattle.romfs_facts.specs.Tested.{IsReached}
 use Rattle.romfs_spec.specs.Check.{isReached}
 use Rattle.romfs_facts.specs.Seek.{is-reached}
-use Rattle.romfs_check.specs.Known.{Walked}
-use Rattle.romfs_check.specs.Facts.{reach-room}
+use Rattle.romfs_links.specs.Known.{Walked}
+use Rattle.romfs_links.specs.Facts.{reach-room}
 use Rattle.romfs.proofs.Laws as laws
 use Rattle.romfs.proofs.steps.entry_step.Statement.{statement}
 use Rattle.romfs.proofs.steps.entry_step.Tie as tie

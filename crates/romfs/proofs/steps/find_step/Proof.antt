@@ -7,7 +7,7 @@ use denote.Ref.{now}
 use Rattle.romfs_facts.specs.Tested.{IsReached}
 use Rattle.romfs_spec.specs.Requests.{isDirectory}
 use Rattle.romfs_facts.specs.Given.{first-reached}
-use Rattle.romfs_check.specs.Known.{Walked}
+use Rattle.romfs_links.specs.Known.{Walked}
 use Rattle.romfs.proofs.Laws as laws
 use Rattle.romfs.proofs.steps.find_step.Statement.{statement}
 use Rattle.romfs.proofs.steps.find_step.Tie as tie

@@ -1,5 +1,5 @@
 use mathlib.Core.Path.{sym, _∙_}
-use Rattle.romfs_check.specs.Facts.{full-at-least}
+use Rattle.romfs_links.specs.Facts.{full-at-least}
 use Rattle.romfs.proofs.Laws as laws
 use Rattle.romfs_facts.specs.Given.{first-info, dir-is}
 use Rattle.romfs.proofs.steps.first_of.Statement.{statement}

@@ -3,7 +3,7 @@ use mathlib.Core.Path.{sym, _∙_}
 use Prim.Native.Nat.{_-_}
 use native.Mathlib.Omega.{arith}
 use Rattle.romfs_facts.specs.Tested.{IsReached}
-use Rattle.romfs_check.specs.Facts.{reach-room}
+use Rattle.romfs_links.specs.Facts.{reach-room}
 use Rattle.romfs.proofs.Laws as laws
 use Rattle.romfs.proofs.steps.match_from.Statement.{statement}
 use Rattle.romfs.proofs.steps.match_from.Tie as tie

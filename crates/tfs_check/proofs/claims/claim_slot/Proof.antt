@@ -28,7 +28,7 @@ claim-file-requires : tie.Need-claim-file-requires
 claim-file-requires c κs =
     let part = c .before in
     let f = file (part .before) in
-    rw (part .block-of .ensures .0) (search needs, f .small, λ i h. f .within i h .1)
+    rw (part .block-of .ensures .0) (search needs, f .small, λ i h. f .within i h .1, search needs)
 
 returns-2 : tie.Need-returns-2
 returns-2 c =

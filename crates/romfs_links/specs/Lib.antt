@@ -1,0 +1,4 @@
+pub mod Known
+pub mod Window
+pub mod Tour
+pub mod Facts

@@ -1,0 +1,191 @@
+//! What the report claims, and whether it holds in every run.
+
+use crate::runs::{Row, Runs, Section};
+
+/// A limit on how many times as long the proved request takes as a lane beside it.
+struct Claim {
+    words: &'static str,
+    most: f64,
+    lane: &'static str,
+    /// Whether it is about a row, by the titles of its section and its own.
+    about: fn(&str, &str) -> bool,
+}
+
+const REQUESTS: &str = "TFS: a volume of 2 MiB";
+const LARGEST: &str = "TFS: read and write of 65,024 bytes";
+const LARGEST_LESS: &str = "TFS: read and write of 65,024 bytes, less the check";
+
+const CLAIMS: [Claim; 8] = [
+    Claim {
+        words: "A check of 25 largest files takes at most 0.70 of the reference's time",
+        most: 0.70,
+        lane: "reference",
+        about: |section, row| section == REQUESTS && row == "check, 25 largest files",
+    },
+    Claim {
+        words: "A check, free bytes, a list, a create with its remove: at most 1.00 of the reference",
+        most: 1.00,
+        lane: "reference",
+        about: |section, _| section == REQUESTS || section.starts_with("TFS: check of "),
+    },
+    Claim {
+        words: "A create and a remove of 65,024 bytes: at most 1.00 of the reference",
+        most: 1.00,
+        lane: "reference",
+        about: |section, row| {
+            section == REQUESTS && row.starts_with("create and remove 65,024 bytes")
+        },
+    },
+    Claim {
+        words: "A read or write of 65,024 bytes, whole and less the check: at most 1.00 of the reference",
+        most: 1.00,
+        lane: "reference",
+        about: |section, _| section == LARGEST || section == LARGEST_LESS,
+    },
+    Claim {
+        words: "A read or write of 65,024 bytes in blocks one after another, less the check: at most 1.10 of `memcpy`",
+        most: 1.10,
+        lane: "copy",
+        about: |section, row| section == LARGEST_LESS && !row.ends_with("scattered blocks"),
+    },
+    Claim {
+        words: "A replay: at most 1.00 of the reference",
+        most: 1.00,
+        lane: "reference",
+        about: |section, _| section.starts_with("Traces: replay"),
+    },
+    Claim {
+        words: "A check of each romfs family at 1 MiB: at most 4 times its plain list",
+        most: 4.0,
+        lane: "plain list",
+        about: |section, _| section == "romfs: check of images of 1 MiB",
+    },
+    Claim {
+        words: "A check of each romfs family at 16 MiB: at most 40 times its plain list",
+        most: 40.0,
+        lane: "plain list",
+        about: |section, _| section == "romfs: check of images of 16 MiB",
+    },
+];
+
+/// A row that a claim is about, with the ratios of all runs, the idle ones first.
+struct Judged<'a> {
+    section: &'a Section,
+    row: &'a Row,
+    ratios: Vec<f64>,
+}
+
+impl Judged<'_> {
+    fn worst(&self) -> f64 {
+        self.ratios.iter().copied().fold(0.0, f64::max)
+    }
+}
+
+/// The claims as a table.
+pub fn table(runs: &Runs) -> String {
+    let rows: String = CLAIMS.iter().map(|claim| line(claim, runs)).collect();
+    format!("| claim | worst | |\n|---|---:|---|\n{rows}")
+}
+
+fn line(claim: &Claim, runs: &Runs) -> String {
+    let (worst, verdict) = verdict(claim, runs);
+    format!("| {} | {worst} | {verdict} |\n", claim.words)
+}
+
+/// The worst value, and whether the claim holds.
+fn verdict(claim: &Claim, runs: &Runs) -> (String, String) {
+    let judged = match judged(claim, runs) {
+        Ok(judged) => judged,
+        Err(cause) => return ("-".to_owned(), format!("**does not hold**: {cause}")),
+    };
+    let worst = judged
+        .iter()
+        .max_by(|one, other| one.worst().total_cmp(&other.worst()));
+    let Some(worst) = worst else {
+        let cause = "**does not hold**: nothing of it is measured";
+        return ("-".to_owned(), cause.to_owned());
+    };
+    let all = runs.idle + runs.loaded;
+    let over = |run: &usize| judged.iter().any(|row| row.ratios[*run] > claim.most);
+    let told = match (0..all).filter(over).count() {
+        0 => format!("holds in all {all} runs"),
+        failed => format!(
+            "**does not hold** in {failed} of {all} runs; worst: {}, in \"{}\"",
+            worst.row.title, worst.section.title
+        ),
+    };
+    (format!("{:.3}", worst.worst()), told)
+}
+
+/// All rows that a claim is about; an error if one of them has no ratio.
+fn judged<'a>(claim: &Claim, runs: &'a Runs) -> Result<Vec<Judged<'a>>, String> {
+    let about = |(section, row): &(&Section, &Row)| (claim.about)(&section.title, &row.title);
+    let judge = |(section, row): (&'a Section, &'a Row)| {
+        let lane = section.lanes.iter().position(|lane| lane == claim.lane);
+        let ratios = lane.and_then(|lane| row.ratios(lane));
+        let none = || format!("no ratio in {}, in \"{}\"", row.title, section.title);
+        let ratios = ratios.ok_or_else(none)?;
+        Ok(Judged {
+            section,
+            row,
+            ratios: [ratios.idle, ratios.loaded].concat(),
+        })
+    };
+    runs.rows().filter(about).map(judge).collect()
+}
+
+#[cfg(test)]
+mod tests {
+    use super::*;
+    use crate::fact::Fact;
+
+    const CLAIM: Claim = Claim {
+        words: "half the time",
+        most: 0.5,
+        lane: "reference",
+        about: |section, row| section == "s" && row != "other",
+    };
+
+    /// A run with these times of the proved request beside 100 of the reference.
+    fn run(times: [f64; 3]) -> Vec<Fact> {
+        let fact = |row: &str, lane: &str, ns| Fact {
+            section: "s".to_owned(),
+            row: row.to_owned(),
+            lane: lane.to_owned(),
+            ns,
+        };
+        let rows = ["one", "two", "other"].into_iter().zip(times);
+        rows.flat_map(|(row, time)| [fact(row, "proved", time), fact(row, "reference", 100.0)])
+            .collect()
+    }
+
+    fn told(idle: &[[f64; 3]], loaded: &[[f64; 3]]) -> (String, String) {
+        let idle: Vec<_> = idle.iter().copied().map(run).collect();
+        let loaded: Vec<_> = loaded.iter().copied().map(run).collect();
+        verdict(&CLAIM, &Runs::of(&idle, &loaded).expect("runs"))
+    }
+
+    #[test]
+    fn a_claim_holds_up_to_its_limit_and_shows_its_worst_value() {
+        let (worst, verdict) = told(&[[40.0, 30.0, 90.0]; 2], &[[40.0, 50.0, 90.0]]);
+        assert_eq!((&worst[..], &verdict[..]), ("0.500", "holds in all 3 runs"));
+    }
+
+    #[test]
+    fn a_claim_over_its_limit_in_one_run_fails_and_says_where() {
+        for (idle, loaded) in [(50.1, 40.0), (40.0, 50.1)] {
+            let (worst, verdict) = told(&[[10.0; 3], [10.0, idle, 1.0]], &[[10.0, loaded, 1.0]]);
+            let expected = "**does not hold** in 1 of 3 runs; worst: two, in \"s\"";
+            assert_eq!((&worst[..], &verdict[..]), ("0.501", expected));
+        }
+    }
+
+    #[test]
+    fn a_claim_about_nothing_measured_fails() {
+        let nothing = verdict(&CLAIM, &Runs::of(&[Vec::new()], &[]).expect("runs"));
+        assert!(nothing.1.starts_with("**does not hold**"), "{nothing:?}");
+        let (worst, verdict) = told(&[[0.1, 10.0, 10.0]], &[]);
+        let expected = "**does not hold**: no ratio in one, in \"s\"";
+        assert_eq!((&worst[..], &verdict[..]), ("-", expected));
+    }
+}
