@@ -4,8 +4,8 @@
  * Every request takes the whole image as a pointer and a length, of any
  * content and any length, and answers by value. No allocation, no global
  * state, no recursion, under 4 KiB of stack as measured. The library is
- * libtfs_c.a; it needs memcpy and memset. tfs_common.h says for what machine and
- * ABI it is.
+ * libtfs_c.a; it needs memcpy, memmove and memset. tfs_common.h says for what
+ * machine and ABI it is.
  *
  * What a request costs: each but tfs_format does one check of the volume, and
  * then its own work. The check reads blocks 0 to 2 and the inode block of each

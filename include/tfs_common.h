@@ -10,8 +10,8 @@
  * thread-local data. They are position-independent: all relocations are
  * relative to where they stand, so that the archives go into a program at a
  * fixed address, a PIE or a shared library. They have no writable data. What
- * each needs of the program that links it, memset or memcpy, its header says;
- * no archive needs another one.
+ * each needs of the program that links it, memset, memcpy or memmove, its header
+ * says; no archive needs another one.
  *
  * The headers are C from C99 on, or C89 with gcc or clang, and C++ from C++98
  * on.

@@ -100,7 +100,8 @@ cat <<'TEXT'
 
 - *proved*: the request through its C interface, from the static library.
 - *reference*: the same request of `host/reference`, in Rust with `--release`.
-- *copy*: a plain `memcpy` of the same bytes.
+- *copy*: a plain `memcpy` of the same bytes between the same places; where the file's blocks are scattered, of as many bytes that
+  stand behind the volume.
 - *C*: the ones of the map's words by `__builtin_popcount`, the last word masked at N, called on the map block with no check;
   `gcc -O2 -std=c99 -Wall -Wextra -Werror -pedantic`, where each word is a call of libgcc, as there is no `-mpopcnt`.
 - *plain list*: the proved check of a romfs image of the same length with as many headers, all of files in one list.
@@ -123,10 +124,12 @@ format's has a check in it.
 TEXT
 cat <<'TEXT'
 
-Times less the check are differences of two measurements. Of free bytes, of reads and writes of few bytes, of stores, of mends
-and of the timing file they are medians over all rounds, on eight volumes at eight places in a page; the reference's check is
-compiled into each of its requests, so that its difference is not its count alone. A dash stands for a ratio with a difference
-below the clock's noise.
+Times less the check are medians over all rounds of the difference between a request and its check in the same round. There, and
+in the whole times beside them, all ways work on one image and with one buffer, which lie at eight places in a page, scattered
+volumes each time another one; both, one or none of the two begin at a multiple of 16. So it is with reads and writes of 64 bytes. The reference's check
+is compiled into each of its requests, so that its difference is not its count alone. A dash stands for a ratio to a difference
+below the clock's noise, or of one that is below nothing by more. Where only the proved one is within it, the ratio stands, as
+0.00 if that is negative.
 
 A volume of 2 MiB is full when its 25 slots are used: 25 files of 65,024 bytes have 3,200 of its 4,093 blocks. There, create and
 remove are timed as remove and create. It is half full with 16 such files; solid where their blocks stand one after another, as
@@ -136,7 +139,8 @@ zero of every slot.
 Before each mend the bits that it clears are set again, which is in its time. So it is with a store that creates the timing file:
 before each the map and the directory are set back to those without it, by a copy of 1,024 bytes.
 
-A replay checks the volume once; *one by one* is the same requests as separate calls of the proved library, each with its check,
+The bytes that a read in a trace should give are compared 16 at a time; the reference compares them by `memcmp`, by more at a
+time where the processor can. A replay checks the volume once; *one by one* is the same requests as separate calls of the proved library, each with its check,
 and with no comparison of the answers.
 
 The reference seeks the target of every link from the root, so that its time grows with the square of the links; images with hard

@@ -1,7 +1,7 @@
 // Searches and tests of every byte.
 ghost use mathlib.Core.Path.{_≡_};
 ghost use lib.ListN.{length};
-ghost use Rattle.lists.specs.Lists.{sameList, firstZero};
+ghost use Rattle.lists.specs.Lists.{zeros, sameList, firstZero};
 
 // The index of the first zero byte, or the length.
 pub fn first_zero(p: &[u8]) -> usize
@@ -43,6 +43,21 @@ pub fn same_long(a: &[u8], b: &[u8]) -> bool
     let mut i = 0;
     while i < a.len() {
         if a[i] != b[i] {
+            differ = 1;
+        }
+        i += 1;
+    }
+    differ == 0
+}
+
+// Whether every byte is zero; no byte is left out, so that many are tested at a time.
+pub fn all_zero(p: &[u8]) -> bool
+    ensures { λ r. ⌜ r ≡ sameList (now (p .entry)) (zeros (length (now (p .entry)))) ⌝ }
+{
+    let mut differ = 0u8;
+    let mut i = 0;
+    while i < p.len() {
+        if p[i] != 0 {
             differ = 1;
         }
         i += 1;

@@ -1,16 +1,15 @@
 -- Blocks claimed in a map that has a bit for each.
 use mathlib.Core.Path.{_≡_, refl, sym, ap, _∙_}
 use mathlib.Core.Bool.{Bool, cond}
-use Prim.Native.Nat.{ℕ, suc, _+_, _<_, min}
+use Prim.Native.Nat.{ℕ, _+_, min}
 use native.Mathlib.Numerals.{add-one}
 use native.Mathlib.Omega.{arith}
 use mathlib.Core.List.{List, [], _∷_, _++_}
 use Rattle.lists.specs.Lists.{table}
-use Rattle.list_laws.specs.Table.{getD-table, table-more}
+use Rattle.list_laws.specs.Table.{table-more}
 use Rattle.tfs_spec.specs.Layout.{mapBit, setBit, setBits, need, inodeSize, inodeNumber}
 use Rattle.tfs_map.specs.Bits.{bits-more}
-use Rattle.tfs_map.specs.Under.{Under}
-use Rattle.tfs_inode.specs.Claims.{claimList, length-claims}
+use Rattle.tfs_inode.specs.Claims.{claimList}
 
 -- the lower of b and low where b is claimed twice, else low
 abbrev pub lowerOf : Bool → ℕ → ℕ → ℕ
@@ -40,16 +39,6 @@ unfolding doubled
 doubled-last map bs b low = doubled-append map bs (b ∷ []) low
 
 -- ---- the claims of a file, number by number
-pub claim-own : (n b : ℕ) (ino : List ℕ) → Under n (claimList b ino) → b < n
-unfolding claimList
-claim-own n b ino u = u 0 (omega arith)
-
-pub claim-number : (n b : ℕ) (ino : List ℕ) (k : ℕ) → Under n (claimList b ino) → k < need 512 (inodeSize ino) → inodeNumber ino k < n
-unfolding claimList
-claim-number n b ino k u h =
-    let z : 0 + k ≡ k = omega arith in
-    rw (getD-table (inodeNumber ino) 0 (need 512 (inodeSize ino)) k 0 h, z) at (u (suc k) (omega (arith, length-claims b ino)))
-
 -- the first k numbers
 unfoldable pub numbersTo : List ℕ → ℕ → List ℕ
 numbersTo ino k = table (inodeNumber ino) 0 k

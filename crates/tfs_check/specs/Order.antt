@@ -198,13 +198,16 @@ pub start-map : set (zeros 512) 3 7 ≡ formatMap 512
 unfolding setBit withBit
 start-map = refl
 
-module _ (img : List ℕ) (w : Sized img) (n : ℕ) where
-  pub twice-at : doubled (set (zeros 512) 3 7) (claims 512 (view 512 img)) n ≡ least (claimedTwice (claims 512 (view 512 img))) n
-  twice-at = rw start-map (doubled-is (claims 512 (view 512 img)) (claims-all-within img w) n)
+pub from-start : (cs after : List ℕ) (r n : ℕ) → (after ≡ setBits (set (zeros 512) 3 7) 1 cs) → (r ≡ doubled (set (zeros 512) 3 7) cs n) → (after ≡ setBits (formatMap 512) 1 cs) × (r ≡ doubled (formatMap 512) cs n)
+from-start cs after r n e f = (e ∙ ap (λ (m : List ℕ). setBits m 1 cs) start-map, f ∙ ap (λ (m : List ℕ). doubled m cs n) start-map)
+
+module _ (img : List ℕ) (w : Sized img) where
+  pub twice-at : (n : ℕ) → doubled (formatMap 512) (claims 512 (view 512 img)) n ≡ least (claimedTwice (claims 512 (view 512 img))) n
+  twice-at n = doubled-is (claims 512 (view 512 img)) (claims-all-within img w) n
 
   -- the map of the claims marks them and blocks 0 to 2
   pub marks-at : Marks (setBits (set (zeros 512) 3 7) 1 (claims 512 (view 512 img))) (claims 512 (view 512 img))
   marks-at = rw start-map (marks-is (claims 512 (view 512 img)) (claims-all-within img w))
 
-  pub bits-at : n ≤ 4096 → least (bitDiffers (view 512 img .map) (setBits (set (zeros 512) 3 7) 1 (claims 512 (view 512 img)))) n ≡ least (badBit (view 512 img) (claims 512 (view 512 img))) n
-  bits-at small = rw start-map (differs-is (claims 512 (view 512 img)) (claims-all-within img w) n small (view 512 img))
+  pub bits-at : (n : ℕ) → n ≤ 4096 → least (bitDiffers (view 512 img .map) (setBits (formatMap 512) 1 (claims 512 (view 512 img)))) n ≡ least (badBit (view 512 img) (claims 512 (view 512 img))) n
+  bits-at n small = differs-is (claims 512 (view 512 img)) (claims-all-within img w) n small (view 512 img)

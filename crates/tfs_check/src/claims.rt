@@ -1,21 +1,27 @@
-// The claims of all files, in a map of their own.
+// The claims of all files, in a map of their own, and rule 5 on the way.
 ghost use mathlib.Core.Path.{_≡_};
 ghost use Prim.Native.Nat.{_%_, _≤_, _<_};
 ghost use lib.ListN.{length};
-ghost use Rattle.tfs_spec.specs.Layout.{setBits, need, inodeSize, view};
-ghost use Rattle.tfs_spec.specs.Check.{fileClaims, claims};
-ghost use Rattle.tfs_map.specs.Under.{Under};
+ghost use Rattle.tfs_spec.specs.Layout.{blocks, need, inodeSize, inodeNumber, view};
+ghost use Rattle.tfs_spec.specs.Check.{fileClaims, badInode};
+ghost use Rattle.tfs_inode.specs.Wrong.{inodeWrong};
 ghost use Rattle.tfs_inode.specs.Claims.{claimList};
-ghost use Rattle.tfs_check.specs.Doubled.{lowerOf, doubled};
+ghost use Rattle.tfs_check.specs.Doubled.{lowerOf, numbersTo};
 ghost use Rattle.tfs_check.specs.Taken.{rowByte, held};
-ghost use Rattle.tfs_check.specs.Files.{Sized};
+ghost use Rattle.tfs_check.specs.Row.{Fills, Turned};
+ghost use Rattle.tfs_check.specs.Files.{Formed};
+ghost use Rattle.tfs_check.specs.Found.{listedWrong, Claimed, FilesClaimed};
 use crate::files::is_free;
 use spans::bits::with_one;
 use tfs_dir::volume::inode_at;
 use tfs_inode::read::block_number;
 use tfs_inode::read::blocks_needed;
+use tfs_inode::read::inode_number;
 use tfs_inode::read::inode_size;
+use tfs_inode::rule::in_volume;
+use tfs_inode::rule::spare_wrong;
 use tfs_layout::BLOCK;
+use tfs_layout::MAX_SIZE;
 use tfs_layout::SLOTS;
 use tfs_layout::block_of;
 use tfs_map::bit::map_bit;
@@ -71,54 +77,155 @@ fn place_of(b: usize) -> u32
     (b % 8) as u32
 }
 
-// Claims the blocks of a file in the map; and the lowest of low and those that were claimed already.
-fn claim_file(inode: u32, ino: &[u8], owned: &mut [u8], low: usize) -> usize
-    requires { ⌜ (length (now ino) ≡ 512) × (need 512 (inodeSize (now ino)) ≤ 127) × Under 4096 (claimList inode (now ino)) × (length (now owned) ≡ 512) ⌝ }
-    ensures { λ r. ⌜ (now (owned .exit) ≡ setBits (now (owned .entry)) 1 (claimList inode (now (ino .entry)))) × (r ≡ doubled (now (owned .entry)) (claimList inode (now (ino .entry))) low) ⌝ }
+// Block number k, in more bits.
+fn number(ino: &[u8], k: usize) -> usize
+    requires { ⌜ (length (now ino) ≡ 512) × (k < 127) ⌝ }
+    ensures { λ r. ⌜ r ≡ inodeNumber (now (ino .entry)) k ⌝ }
 {
-    let count = blocks_needed(inode_size(ino));
-    let own = inode as usize;
-    let first = map_bit(owned, own);
-    set_bit(owned, own);
-    let mut least = lower(first, own, low);
-    let mut row = own / 8;
+    inode_number(ino, k) as usize
+}
+
+// Whether numbers k to k + 7 are found to be the eight blocks of a row, from b on, in a volume of n blocks.
+fn fills_row(ino: &[u8], count: usize, n: usize, k: usize, b: usize) -> bool
+    requires { ⌜ (length (now ino) ≡ 512) × (count ≤ 127) × (n ≤ 4096) × (k < count) × (b < n) × (b ≡ inodeNumber (now ino) k) ⌝ }
+    ensures { λ r. ⌜ Fills (now (ino .entry)) count n k b r ⌝ }
+{
+    if b % 8 != 0 {
+        return false;
+    }
+    if count < k + 8 {
+        return false;
+    }
+    if n < b + 8 {
+        return false;
+    }
+    let mut j = 1;
+    while j < 8 {
+        if number(ino, k + j) != b + j {
+            return false;
+        }
+        j += 1;
+    }
+    true
+}
+
+// What is left to claim of an inode: from number k on; the byte of the last row, and the lowest block claimed twice.
+struct Turn {
+    k: usize,
+    byte: u8,
+    least: usize,
+}
+
+// Claims number k, block b, in the byte of its row; or all eight blocks of the row where the next numbers are these and none is claimed.
+fn claim_next(ino: &[u8], count: usize, n: usize, k: usize, b: usize, was: u8, least: usize) -> Turn
+    requires { ⌜ (length (now ino) ≡ 512) × (count ≤ 127) × (n ≤ 4096) × (k < count) × (3 ≤ b) × (b < n) × (b ≡ inodeNumber (now ino) k) ⌝ }
+    ensures { λ r. ⌜ Turned (now (ino .entry)) count n k b was least (r .k) (r .byte) (r .least) ⌝ }
+{
+    if fills_row(ino, count, n, k, b) {
+        if was == 0 {
+            return Turn {
+                k: k + 8,
+                byte: 255,
+                least,
+            };
+        }
+    }
+    let byte = with_one(was, place_of(b));
+    Turn {
+        k: k + 1,
+        byte,
+        least: lower(was == byte, b, least),
+    }
+}
+
+// What claims find: that an inode breaks rule 5, or the lowest block claimed twice so far.
+enum Claim {
+    Wrong,
+    Lowest(usize),
+}
+
+// Claims the first `count` numbers of an inode, as long as they are blocks of files; the row that is taken first is any.
+fn claim_numbers(
+    ino: &[u8],
+    count: usize,
+    n: usize,
+    owned: &mut [u8],
+    first: usize,
+    low: usize,
+) -> Claim
+    requires { ⌜ (length (now ino) ≡ 512) × (count ≡ need 512 (inodeSize (now ino))) × (count ≤ 127) × (3 ≤ n) × (n ≤ 4096) × (length (now owned) ≡ 512) × (first < 512) ⌝ }
+    ensures { λ r. ⌜ Claimed (listedWrong n (now (ino .entry)) count) (numbersTo (now (ino .entry)) count) (now (owned .entry)) low (now (owned .exit)) r ⌝ }
+{
+    let mut least = low;
+    let mut row = first;
     let mut byte = owned[row_byte(row)];
     let mut k = 0;
     while k < count {
+        if !in_volume(ino, k, n) {
+            return Claim::Wrong;
+        }
         let b = block_number(ino, k);
         let taken = take(owned, Taken { row, byte }, b / 8);
+        let turn = claim_next(ino, count, n, k, b, taken.byte, least);
         row = taken.row;
-        let was = taken.byte;
-        byte = with_one(was, place_of(b));
-        least = lower(was == byte, b, least);
-        k += 1;
+        byte = turn.byte;
+        least = turn.least;
+        k = turn.k;
     }
     owned[row_byte(row)] = byte;
-    least
+    Claim::Lowest(least)
 }
 
-// Claims the blocks of the file in slot s; and the lowest of low and those that were claimed already.
-fn claim_slot(image: &[u8], s: usize, owned: &mut [u8; BLOCK], low: usize) -> usize
-    requires { ⌜ Sized (now image) × (s < 25) ⌝ }
-    ensures { λ r. ⌜ (now (owned .exit) ≡ setBits (now (owned .entry)) 1 (fileClaims 512 (view 512 (now (image .entry))) s)) × (r ≡ doubled (now (owned .entry)) (fileClaims 512 (view 512 (now (image .entry))) s) low) ⌝ }
+// Claims the blocks of a file, unless its inode breaks rule 5 in a volume of n blocks.
+fn claim_file(inode: u32, ino: &[u8], n: usize, owned: &mut [u8], low: usize) -> Claim
+    requires { ⌜ (length (now ino) ≡ 512) × (3 ≤ n) × (n ≤ 4096) × (inode < n) × (length (now owned) ≡ 512) ⌝ }
+    ensures { λ r. ⌜ Claimed (inodeWrong 512 n (now (ino .entry))) (claimList inode (now (ino .entry))) (now (owned .entry)) low (now (owned .exit)) r ⌝ }
+{
+    let size = inode_size(ino);
+    if MAX_SIZE < size {
+        return Claim::Wrong;
+    }
+    let count = blocks_needed(size);
+    if spare_wrong(ino, count) {
+        return Claim::Wrong;
+    }
+    let own = inode as usize;
+    let twice = map_bit(owned, own);
+    set_bit(owned, own);
+    claim_numbers(ino, count, n, owned, own / 8, lower(twice, own, low))
+}
+
+// Claims the blocks of the file in slot s, unless it breaks rule 5.
+fn claim_slot(image: &[u8], s: usize, n: usize, owned: &mut [u8; BLOCK], low: usize) -> Claim
+    requires { ⌜ Formed (now image) × (n ≡ blocks 512 (now image)) × (s < 25) ⌝ }
+    ensures { λ r. ⌜ Claimed (badInode 512 (view 512 (now (image .entry))) s) (fileClaims 512 (view 512 (now (image .entry))) s) (now (owned .entry)) low (now (owned .exit)) r ⌝ }
 {
     if is_free(image, s) {
-        return low;
+        return Claim::Lowest(low);
     }
     let number = inode_at(image, s);
-    claim_file(number, block_of(image, number as usize), owned, low)
+    claim_file(number, block_of(image, number as usize), n, owned, low)
 }
 
-// Claims the blocks of each file; and the lowest of n and those that were claimed already.
-pub fn claim_files(image: &[u8], owned: &mut [u8; BLOCK], n: usize) -> usize
-    requires { ⌜ Sized (now image) ⌝ }
-    ensures { λ r. ⌜ (now (owned .exit) ≡ setBits (now (owned .entry)) 1 (claims 512 (view 512 (now (image .entry))))) × (r ≡ doubled (now (owned .entry)) (claims 512 (view 512 (now (image .entry)))) n) ⌝ }
+// What the claims of all files find: the first slot that breaks rule 5, or the lowest of n and the blocks claimed twice.
+pub enum Claims {
+    WrongSlot(usize),
+    AllMade(usize),
+}
+
+// Claims the blocks of each file, up to the first that breaks rule 5.
+pub fn claim_files(image: &[u8], owned: &mut [u8; BLOCK], n: usize) -> Claims
+    requires { ⌜ Formed (now image) × (n ≡ blocks 512 (now image)) ⌝ }
+    ensures { λ r. ⌜ FilesClaimed (view 512 (now (image .entry))) n (now (owned .entry)) (now (owned .exit)) r ⌝ }
 {
     let mut low = n;
     let mut s = 0;
     while s < SLOTS {
-        low = claim_slot(image, s, owned, low);
+        let Claim::Lowest(least) = claim_slot(image, s, n, owned, low) else {
+            return Claims::WrongSlot(s);
+        };
+        low = least;
         s += 1;
     }
-    low
+    Claims::AllMade(low)
 }

@@ -1,15 +1,15 @@
 -- The stores of a write to the file in a slot, from what the code finds of its reach.
-use mathlib.Core.Path.{_≡_, refl, sym, ap, _∙_}
+use mathlib.Core.Path.{_≡_, sym, ap, _∙_}
 use mathlib.Core.Bool.{true, false, _||_}
 use Prim.Native.Nat.{ℕ, _+_, _-_, _*_, _/_, _≤_, _<_, min}
 use mathlib.Core.List.{List, _++_}
 use native.Mathlib.Omega.{arith}
 use native.Mathlib.Nat.{sub-zero, add-sub-cancel-left}
-use lib.ListN.{length, getD, take, drop, length-take}
-use lib.Seq.{length-take-le, getD-take, getD-drop}
+use lib.ListN.{length, take, drop}
+use lib.Seq.{length-take-le}
 use lib.Dec.{ltb, eqb}
 use Rattle.lists.specs.Lists.{part, withPart}
-use Rattle.tfs_spec.specs.Layout.{need, blocks, block, inodeSize, view, inode, size, number}
+use Rattle.tfs_spec.specs.Layout.{need, blocks, block, inodeNumber, view, inode, size, number}
 use Rattle.tfs_spec.specs.Check.{consistent, check}
 use Rattle.tfs_spec.specs.Consistent.{File, Sound}
 use Rattle.tfs_spec.specs.Requests.{granted, blocksMet, transferAnswer, writeStores, kth}
@@ -17,8 +17,8 @@ use Rattle.tfs_facts.specs.CheckMeans.{check-means}
 use Rattle.tfs_facts.specs.Sizes.{size-512, in-image}
 use Rattle.tfs_facts.specs.Views.{view-n}
 use Rattle.tfs_facts.specs.Fetched.{given-when, overlaid, length-write, write-meets, write-store}
-use Rattle.tfs_steps.specs.Ready.{listed, sized, size-small, blocks-high, length-content-list, need-few}
-use Rattle.tfs_transfer.specs.Transfer.{Moves, Listed, counted-is, reach, allowed, few-bytes}
+use Rattle.tfs_steps.specs.Ready.{size-small, file-ready, number-is}
+use Rattle.tfs_transfer.specs.Transfer.{Moves, counted-is, reach, allowed, few-bytes}
 use Rattle.tfs_fetch.specs.Stored.{stored}
 
 -- bytes copied over a part of a block, as code takes the parts
@@ -26,20 +26,20 @@ pub overlay-is : (B p o : ℕ) (bs blk last : List ℕ) (lo skip hi : ℕ) → l
 unfolding overlaid withPart part
 overlay-is B p o bs blk last lo skip hi a b c t = rw (t, add-sub-cancel-left, a, b, c)
 
--- c bytes are moved to the file in slot s, and from 1 to n the list has its content blocks
-pub record Reached (img : List ℕ) (s o : ℕ) (bytes : List ℕ) (c n : ℕ) (list : List ℕ) : Type 0 where
+-- c bytes are moved to the file in slot s, whose inode is block n
+pub record Reached (img : List ℕ) (s o : ℕ) (bytes : List ℕ) (c n : ℕ) : Type 0 where
   pub passed : check 512 img ≡ consistent
   pub file : File 512 (view 512 img) s
   pub moves : Moves (view 512 img) s o (length bytes) c
-  pub lists : Listed img s n list
+  pub stands : n ≡ inode (view 512 img) s
 
 -- and of its q stores a k-th can be given, to a buffer of len bytes
-pub record Asked (img : List ℕ) (s o : ℕ) (bytes : List ℕ) (c n : ℕ) (list : List ℕ) (k q len : ℕ) : Type 0 where
-  pub reached : Reached img s o bytes c n list
+pub record Asked (img : List ℕ) (s o : ℕ) (bytes : List ℕ) (c n k q len : ℕ) : Type 0 where
+  pub reached : Reached img s o bytes c n
   pub met : q ≡ blocksMet 512 o c
   pub test : (eqb k 0 || (ltb q k || ltb len 512)) ≡ false
 
-module _ {img : List ℕ} {s o : ℕ} {bytes : List ℕ} {c n : ℕ} {list : List ℕ} (r : Reached img s o bytes c n list) where
+module _ {img : List ℕ} {s o : ℕ} {bytes : List ℕ} {c n : ℕ} (r : Reached img s o bytes c n) where
   ok : Sound 512 (view 512 img)
   ok = check-means 512 size-512 img .0 (r .passed) .sound
 
@@ -48,10 +48,13 @@ module _ {img : List ℕ} {s o : ℕ} {bytes : List ℕ} {c n : ℕ} {list : Lis
 
   -- so few that a 32-bit number tells them
   pub write-small : c < 4294967296
-  write-small = few-bytes img (r .passed) s (r .file) o (length bytes) c (r .moves) _ (r .lists .content)
+  write-small = few-bytes img (r .passed) s (r .file) o (length bytes) c (r .moves)
 
   pub write-short : c ≤ length bytes
   write-short = omega (arith, r .moves .count)
+
+  pub write-inode : n * 512 + 512 ≤ length img
+  write-inode = file-ready img (r .passed) s (r .file) n (r .stands) .0
 
   cut : take (c - 0) bytes ≡ take c bytes
   cut = ap (λ (x : ℕ). take x bytes) (sub-zero c)
@@ -63,8 +66,8 @@ module _ {img : List ℕ} {s o : ℕ} {bytes : List ℕ} {c n : ℕ} {list : Lis
   write-many q e = e ∙ length-write 512 (omega arith) img ok s (r .file) o c bytes (counted-is (r .moves)) (reach (r .moves))
 
 -- the k-th store: that of the i-th block of the file
-module _ {img : List ℕ} {s o : ℕ} {bytes : List ℕ} {c n : ℕ} {list : List ℕ} {k q len : ℕ} (a : Asked img s o bytes c n list k q len) where
-  abbrev r : Reached img s o bytes c n list
+module _ {img : List ℕ} {s o : ℕ} {bytes : List ℕ} {c n k q len : ℕ} (a : Asked img s o bytes c n k q len) where
+  abbrev r : Reached img s o bytes c n
   r = a .reached
 
   abbrev i : ℕ
@@ -79,38 +82,32 @@ module _ {img : List ℕ} {s o : ℕ} {bytes : List ℕ} {c n : ℕ} {list : Lis
   meets : (o / 512 + (k - 1) < need 512 (size (view 512 img) s)) × (o < (o / 512 + (k - 1)) * 512 + 512) × ((o / 512 + (k - 1)) * 512 < o + c)
   meets = write-meets 512 (omega arith) img (ok r) s (r .file) o c bytes (counted-is (r .moves)) (reach (r .moves)) k (write-when .0) few
 
-  needed : need 512 (size (view 512 img) s) ≡ need 512 (inodeSize (block 512 img (inode (view 512 img) s)))
-  needed = ap (need 512) (sym (sized img (r .passed) s (r .file) (inode (view 512 img) s) (inodeSize (block 512 img (inode (view 512 img) s))) refl refl))
+  ends : o + c ≤ 65024
+  ends = omega (arith, reach (r .moves), size-small img (r .passed) s (r .file))
 
-  pub write-index : 1 + (o / 512 + (k - 1)) < 128
-  write-index = omega (arith, meets .0, needed, need-few img (r .passed) s (r .file))
+  pub write-index : o / 512 + (k - 1) < 127
+  write-index = omega (arith, meets .2, ends)
 
-  number-at : getD list (1 + (o / 512 + (k - 1))) 0 ≡ number (view 512 img) s (o / 512 + (k - 1))
-  number-at =
-      let many : length (take (n - 1) (drop 1 list)) ≡ need 512 (size (view 512 img) s) = ap length (r .lists .content) ∙ length-content-list img (r .passed) s (r .file) ∙ sym needed in
-      let h : i < n - 1 = omega (arith, meets .0, many, length-take (n - 1) (drop 1 list)) in
-      sym (getD-take (n - 1) (drop 1 list) i 0 h ∙ getD-drop 1 list i 0)
-      ∙ ap (λ (x : List ℕ). getD x i 0) (r .lists .content)
-      ∙ listed img (r .passed) s (r .file) i (meets .0)
+  -- its number b, out of the inode
+  module _ (ino : List ℕ) (b : ℕ) (is : ino ≡ block 512 img n) (e : b ≡ inodeNumber ino (o / 512 + (k - 1))) where
+    number-at : b ≡ number (view 512 img) s (o / 512 + (k - 1))
+    number-at = e ∙ ap (λ (x : List ℕ). inodeNumber x i) (is ∙ ap (block 512 img) (r .stands)) ∙ sym (number-is img (r .passed) s (r .file) i)
 
-  below : number (view 512 img) s (o / 512 + (k - 1)) < blocks 512 img
-  below = omega (arith, ok r .inside s i (r .file) (meets .0) .high, view-n 512 img)
+    below : number (view 512 img) s (o / 512 + (k - 1)) < blocks 512 img
+    below = omega (arith, ok r .inside s i (r .file) (meets .0) .high, view-n 512 img)
 
-  pub write-number : getD list (1 + (o / 512 + (k - 1))) 0 < 4096
-  write-number = omega (arith, number-at, below, blocks-high img (r .passed))
+    pub write-ready : (b * 512 + 512 ≤ length img) × (o < (o / 512 + (k - 1)) * 512 + 512) × ((o / 512 + (k - 1)) * 512 < o + length (take (c - 0) bytes)) × (o + length (take (c - 0) bytes) < 4294967296)
+    write-ready = (
+      omega (arith, number-at, in-image 512 (number (view 512 img) s i) img below),
+      meets .1,
+      omega (arith, length-cut r, meets .2),
+      omega (arith, length-cut r, ends),
+    )
 
-  pub write-ready : (getD list (1 + (o / 512 + (k - 1))) 0 * 512 + 512 ≤ length img) × (o < (o / 512 + (k - 1)) * 512 + 512) × ((o / 512 + (k - 1)) * 512 < o + length (take (c - 0) bytes)) × (o + length (take (c - 0) bytes) < 4294967296)
-  write-ready = (
-    omega (arith, number-at, in-image 512 (number (view 512 img) s i) img below),
-    meets .1,
-    omega (arith, length-cut r, meets .2),
-    omega (arith, length-cut r, reach (r .moves), size-small img (r .passed) s (r .file)),
-  )
-
-  pub write-one : (out : List ℕ) → out ≡ overlaid 512 ((o / 512 + (k - 1)) * 512) o (take (c - 0) bytes) (block 512 img (getD list (1 + (o / 512 + (k - 1))) 0)) → (getD list (1 + (o / 512 + (k - 1))) 0 ≡ kth k (writeStores 512 (view 512 img) img s o bytes) .at) × (out ≡ kth k (writeStores 512 (view 512 img) img s o bytes) .bytes)
-  write-one out p =
-      let is = stored (kth k (writeStores 512 (view 512 img) img s o bytes)) (number (view 512 img) s i) (overlaid 512 (i * 512) o (take c bytes) (block 512 img (number (view 512 img) s i))) out
-      (write-store 512 (omega arith) img (ok r) s (r .file) o c bytes (counted-is (r .moves)) (reach (r .moves)) k (write-when .0) few)
-      (p ∙ ap (λ (x : List ℕ). overlaid 512 (i * 512) o x (block 512 img (getD list (1 + i) 0))) (cut r) ∙ ap (λ (x : ℕ). overlaid 512 (i * 512) o (take c bytes) (block 512 img x)) number-at)
-      in
-      (number-at ∙ is .0, is .1)
+    pub write-one : (out : List ℕ) → out ≡ overlaid 512 ((o / 512 + (k - 1)) * 512) o (take (c - 0) bytes) (block 512 img b) → (b ≡ kth k (writeStores 512 (view 512 img) img s o bytes) .at) × (out ≡ kth k (writeStores 512 (view 512 img) img s o bytes) .bytes)
+    write-one out p =
+        let is = stored (kth k (writeStores 512 (view 512 img) img s o bytes)) (number (view 512 img) s i) (overlaid 512 (i * 512) o (take c bytes) (block 512 img (number (view 512 img) s i))) out
+        (write-store 512 (omega arith) img (ok r) s (r .file) o c bytes (counted-is (r .moves)) (reach (r .moves)) k (write-when .0) few)
+        (p ∙ ap (λ (x : List ℕ). overlaid 512 (i * 512) o x (block 512 img b)) (cut r) ∙ ap (λ (x : ℕ). overlaid 512 (i * 512) o (take c bytes) (block 512 img x)) number-at)
+        in
+        (number-at ∙ is .0, is .1)

@@ -1,6 +1,6 @@
 // The k-th store of a write: the met content blocks in file order.
 ghost use mathlib.Core.Path.{_≡_};
-ghost use Prim.Native.Nat.{_+_, _-_, _*_, _≤_, _<_, min};
+ghost use Prim.Native.Nat.{_+_, _-_, _*_, _≤_, _<_};
 ghost use lib.ListN.{length};
 ghost use Rattle.tfs_spec.specs.Layout.{block, view};
 ghost use Rattle.tfs_spec.specs.Check.{consistent, check};
@@ -12,10 +12,11 @@ use crate::asked::unfetched;
 use spans::copy::copy;
 use tfs_dir::lookup::Lookup;
 use tfs_dir::lookup::look_up;
+use tfs_inode::read::inode_number;
 use tfs_layout::BLOCK;
-use tfs_layout::FILE_BLOCKS;
 use tfs_layout::block_of;
 use tfs_layout::blocks_met;
+use tfs_layout::smaller;
 use tfs_steps::Step;
 use tfs_transfer::Reach;
 use tfs_transfer::reach_of;
@@ -25,13 +26,6 @@ fn above(a: usize, b: usize) -> usize
     ensures { λ r. ⌜ r ≡ a - b ⌝ }
 {
     if b < a { a - b } else { 0 }
-}
-
-// The smaller of two numbers.
-fn smaller(a: usize, b: usize) -> usize
-    ensures { λ r. ⌜ r ≡ min a b ⌝ }
-{
-    if a < b { a } else { b }
 }
 
 // Puts bytes that are written from position `from` of a file on over the block whose first byte is position `at`, as far as they lie in it.
@@ -60,9 +54,8 @@ fn file_store(image: &[u8], s: usize, offset: u32, bytes: &[u8], k: usize, buf: 
     requires { ⌜ (check 512 (now image) ≡ consistent) × File 512 (view 512 (now image)) s ⌝ }
     ensures { λ r. ⌜ (stepTold r ≡ given 512 (now (image .entry)) (transferAnswer 512 (view 512 (now (image .entry))) s offset (length (now (bytes .entry)))) (writeStores 512 (view 512 (now (image .entry))) (now (image .entry)) s offset (now (bytes .entry))) k (now (buf .entry)) .answer) × (now (buf .exit) ≡ given 512 (now (image .entry)) (transferAnswer 512 (view 512 (now (image .entry))) s offset (length (now (bytes .entry)))) (writeStores 512 (view 512 (now (image .entry))) (now (image .entry)) s offset (now (bytes .entry))) k (now (buf .entry)) .buffer) × StepFits r ⌝ }
 {
-    let mut list = [0u32; FILE_BLOCKS];
     let len = bytes.len();
-    match reach_of(image, s, offset, len, &mut list) {
+    match reach_of(image, s, offset, len) {
         Reach::Refused(n) => Step::Refused(n),
         Reach::Bytes(count, n) => {
             let met = blocks_met(offset, count as u32);
@@ -71,7 +64,7 @@ fn file_store(image: &[u8], s: usize, offset: u32, bytes: &[u8], k: usize, buf: 
             }
             let from = offset as usize;
             let i = from / BLOCK + (k - 1);
-            let b = list[1 + i];
+            let b = inode_number(block_of(image, n), i);
             write_block(
                 image,
                 b as usize,

@@ -1,3 +1,4 @@
+pub mod Half
 pub mod Wrong
 pub mod Claims
 pub mod Put

@@ -1,66 +1,38 @@
-// Whether an inode breaks rule 5.
+// Rule 5 on an inode, in its parts: a number that the size asks for, and all that it does not ask for.
 ghost use mathlib.Core.Path.{_≡_};
-ghost use Prim.Native.Nat.{_≤_};
+ghost use Prim.Native.Nat.{_≤_, _<_};
 ghost use lib.ListN.{length};
-ghost use Rattle.lists.specs.Lists.{least};
-ghost use Rattle.tfs_spec.specs.Layout.{need, inRange, inodeSize};
-ghost use Rattle.tfs_inode.specs.Wrong.{numberWrong, numbersWrong, inodeWrong};
-use crate::read::blocks_needed;
-use crate::read::inode_number;
-use crate::read::inode_size;
-use tfs_layout::MAX_SIZE;
-use tfs_layout::NUMBERS;
+ghost use Rattle.tfs_spec.specs.Layout.{need, inRange, inodeSize, inodeNumber};
+ghost use Rattle.tfs_inode.specs.Wrong.{Spare};
+use crate::read::half;
+use spans::search::all_zero;
+use std::num::wrapping_sub_usize;
+use tfs_layout::BLOCK;
 
-// Whether b is a block of a file, in a volume of n blocks.
-fn in_range(n: usize, b: u32) -> bool
+// Whether b is a block of a file, in a volume of n blocks: one comparison, as 0 to 2 wrap to numbers above any n.
+fn in_range(n: usize, b: usize) -> bool
+    requires { ⌜ 3 ≤ n ⌝ }
     ensures { λ r. ⌜ r ≡ inRange n b ⌝ }
 {
-    let x = b as usize;
-    3 <= x && x < n
+    wrapping_sub_usize(b, 3) < n - 3
 }
 
-// The first of the `count` numbers that the size asks for that is no block of a file, or `count`.
-fn first_outside(ino: &[u8], n: usize, count: usize) -> usize
+// Whether block number k is a block of a file, in a volume of n blocks.
+pub fn in_volume(ino: &[u8], k: usize, n: usize) -> bool
+    requires { ⌜ (length (now ino) ≡ 512) × (k < 127) × (3 ≤ n) × (n ≤ 4096) ⌝ }
+    ensures { λ r. ⌜ r ≡ inRange n (inodeNumber (now (ino .entry)) k) ⌝ }
+{
+    if half(ino, 4 + 4 * k) != 0 {
+        return false;
+    }
+    in_range(n, half(ino, 6 + 4 * k))
+}
+
+// Whether a number after the `count` that the size asks for makes the inode wrong: one that is not 0.
+pub fn spare_wrong(ino: &[u8], count: usize) -> bool
     requires { ⌜ (length (now ino) ≡ 512) × (count ≡ need 512 (inodeSize (now ino))) × (count ≤ 127) ⌝ }
-    ensures { λ r. ⌜ r ≡ least (numberWrong 512 n (now (ino .entry))) count ⌝ }
+    ensures { λ r. ⌜ Spare (now (ino .entry)) r ⌝ }
 {
-    let mut k = 0;
-    while k < count {
-        if !in_range(n, inode_number(ino, k)) {
-            return k;
-        }
-        k += 1;
-    }
-    count
-}
-
-// Whether one of the 127 numbers is wrong: those that the size asks for, then the others.
-fn numbers_wrong(ino: &[u8], n: usize) -> bool
-    requires { ⌜ (length (now ino) ≡ 512) × (need 512 (inodeSize (now ino)) ≤ 127) ⌝ }
-    ensures { λ r. ⌜ r ≡ numbersWrong 512 n (now (ino .entry)) ⌝ }
-{
-    let count = blocks_needed(inode_size(ino));
-    let listed = first_outside(ino, n, count);
-    if listed < count {
-        return true;
-    }
-    let mut k = count;
-    while k < NUMBERS {
-        if inode_number(ino, k) != 0 {
-            return true;
-        }
-        k += 1;
-    }
-    false
-}
-
-// Whether the size is over 65,024 or one of the numbers is wrong.
-pub fn inode_wrong(ino: &[u8], n: usize) -> bool
-    requires { ⌜ (length (now ino) ≡ 512) × (n ≤ 4096) ⌝ }
-    ensures { λ r. ⌜ r ≡ inodeWrong 512 n (now (ino .entry)) ⌝ }
-{
-    if MAX_SIZE < inode_size(ino) {
-        return true;
-    }
-    numbers_wrong(ino, n)
+    let at = 4 + 4 * count;
+    !all_zero(&ino[at..BLOCK])
 }

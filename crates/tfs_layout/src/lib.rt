@@ -1,6 +1,6 @@
 // The numbers of the layout, the blocks of an image as its parts, and in how many blocks bytes of a file lie.
 ghost use mathlib.Core.Path.{_≡_};
-ghost use Prim.Native.Nat.{_+_, _*_, _≤_};
+ghost use Prim.Native.Nat.{_+_, _*_, _≤_, min};
 ghost use lib.ListN.{length};
 ghost use Rattle.tfs_spec.specs.Layout.{blocks, block, view};
 ghost use Rattle.tfs_spec.specs.Requests.{blocksMet};
@@ -33,6 +33,13 @@ pub const NUMBERS: usize = BLOCK / 4 - 1;
 pub const FILE_BLOCKS: usize = 1 + NUMBERS;
 // The size of the largest file.
 pub const MAX_SIZE: u32 = (NUMBERS * BLOCK) as u32;
+
+// The smaller of two numbers.
+pub fn smaller(a: usize, b: usize) -> usize
+    ensures { λ r. ⌜ r ≡ min a b ⌝ }
+{
+    if a < b { a } else { b }
+}
 
 // How many blocks the volume has: what the image holds, at most one for each bit of the map.
 pub fn blocks(image: &[u8]) -> usize

@@ -156,4 +156,4 @@ pub mend-claimed : (img : List ℕ) (p : ℕ) → check 512 img ≡ broken 6 p �
 mend-claimed img p e =
     let kept : filesVerdict img ≡ consistent = files-kept img 6 p e (omega arith) in
     let here = twice-here img 6 p e refl in
-    mend-twice img kept (setBits (set (zeros 512) 3 7) 1 (claims 512 (view 512 img))) (marks-at img (files-sized img kept) 0) p (here .0) (here .1)
+    mend-twice img kept (setBits (set (zeros 512) 3 7) 1 (claims 512 (view 512 img))) (marks-at img (files-sized img kept)) p (here .0) (here .1)

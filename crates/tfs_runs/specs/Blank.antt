@@ -5,7 +5,6 @@ use mathlib.Core.List.{List, [], _∷_, _++_}
 use native.Mathlib.Nat.{add-zero, zero-mul, suc-mul, add-mul}
 use native.Mathlib.Numerals.{add-one}
 use native.Mathlib.Omega.{arith}
-use native.Mathlib.Decide.{decLt}
 use lib.ListN.{length, getD, take, drop, replicate, length-take, length-drop, length-append, length-replicate, replicate-append-replicate, take-append-drop}
 use lib.Seq.{take-suc}
 use Rattle.lists.specs.Lists.{zeros, withPart, storeAt}
@@ -14,26 +13,21 @@ use Rattle.list_laws.specs.Store.{store-join}
 use Rattle.tfs_spec.specs.Layout.{setBlock}
 use Rattle.tfs_spec.specs.Requests.{Store, store, storeAll, zeroStores}
 use Rattle.tfs_facts.specs.Stores.{storeAll-append}
+use Rattle.tfs_runs.specs.Place.{Counts}
 use Rattle.tfs_runs.specs.Write.{store-run}
 
 pub zero-append : (B : ℕ) (xs ys : List ℕ) → zeroStores B (xs ++ ys) ≡ zeroStores B xs ++ zeroStores B ys
 zero-append B [] ys = refl
 zero-append B (x ∷ xs) ys = ap (λ (l : List Store). store x (zeros B) ∷ l) (zero-append B xs ys)
 
+-- every block lies inside an image of len bytes
+abbrev pub AllInside : List ℕ → ℕ → Type 0
+AllInside bs len = (i : ℕ) → i < length bs → getD bs i 0 * 512 + 512 ≤ len
+
 -- ---- neighbouring blocks
 -- n listed blocks, from place i of the list on, stand one after another
 abbrev pub Neighbours : List ℕ → ℕ → ℕ → Type 0
-Neighbours bs i n = (j : ℕ) → j < n → getD bs (i + j) 0 ≡ getD bs i 0 + j
-
-pub alone : (bs : List ℕ) (i : ℕ) → Neighbours bs i 1
-alone bs i j h = let z : j ≡ 0 = omega arith in rw z (ap (λ (k : ℕ). getD bs k 0) (add-zero i) ∙ sym (add-zero (getD bs i 0)))
-
-pub one-more : (bs : List ℕ) (i n : ℕ) → Neighbours bs i n → getD bs (i + n) 0 ≡ getD bs i 0 + n → Neighbours bs i (n + 1)
-one-more bs i n h e j l =
-    elim (decLt j n) [
-      | yes k ↦ h j k
-      | no k ↦ let z : j ≡ n = omega arith in rw z e
-    ]
+Neighbours bs i n = Counts (λ k. getD bs k 0) i n
 
 -- two parts put, one behind the other, are one
 part-join : (img p q : List ℕ) (s : ℕ) → s + length p + length q ≤ length img → withPart (s + length p) (length q) q (withPart s (length p) p img) ≡ withPart s (length (p ++ q)) (p ++ q) img

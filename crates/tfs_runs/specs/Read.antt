@@ -1,6 +1,6 @@
 -- Bytes read by runs.
 use mathlib.Core.Path.{_≡_, sym, ap, _∙_}
-use Prim.Native.Nat.{ℕ, zero, suc, _+_, _-_, _%_, _≤_, _<_}
+use Prim.Native.Nat.{ℕ, zero, suc, _+_, _-_, _≤_, _<_}
 use mathlib.Core.List.{List, [], _∷_, _++_, append-assoc, append-nil}
 use native.Mathlib.Omega.{arith}
 use native.Mathlib.Nat.{add-zero, zero-add, sub-zero}
@@ -8,7 +8,7 @@ use lib.ListN.{length, getD, take, drop, length-take, length-drop, drop-of-lengt
 use lib.Seq.{ext-getD, getD-take, getD-drop, take-at, drop-at, take-all, drop-drop}
 use Rattle.lists.specs.Lists.{table}
 use Rattle.list_laws.specs.Table.{length-table, getD-table}
-use Rattle.tfs_runs.specs.Place.{at, at-run}
+use Rattle.tfs_runs.specs.Place.{at, Straight}
 
 -- one table after another
 pub table-join : (f : ℕ → ℕ) (k d e : ℕ) → table f k d ++ table f (k + d) e ≡ table f k (d + e)
@@ -19,23 +19,23 @@ table-join f k (suc d) e =
     rw (a, b) (ap (λ (l : List ℕ). f k ∷ l) (table-join f (suc k) d e))
 
 -- a run is a part of the image
-pub table-run : (img bs : List ℕ) (p r : ℕ) → p % 512 + r ≤ 512 → at bs p + r ≤ length img → table (λ q. getD img (at bs q) 0) p r ≡ take r (drop (at bs p) img)
-table-run img bs p r h l =
-    ext-getD 0 (table f p r) (take r (drop (at bs p) img))
+pub table-run : (img ino : List ℕ) (p r : ℕ) → Straight ino p r → at ino p + r ≤ length img → table (λ q. getD img (at ino q) 0) p r ≡ take r (drop (at ino p) img)
+table-run img ino p r near l =
+    ext-getD 0 (table f p r) (take r (drop (at ino p) img))
     (length-table f p r ∙ sym (simp (length-take, length-drop) (omega arith)))
     (λ i k.
     let m : i < r = omega (arith, length-table f p r) in
     getD-table f p r i 0 m
-    ∙ ap (λ (x : ℕ). getD img x 0) (at-run bs p i (omega arith))
-    ∙ sym (getD-take r (drop (at bs p) img) i 0 m ∙ getD-drop (at bs p) img i 0))
+    ∙ ap (λ (x : ℕ). getD img x 0) (near i m)
+    ∙ sym (getD-take r (drop (at ino p) img) i 0 m ∙ getD-drop (at ino p) img i 0))
   where
     f : ℕ → ℕ
-    f q = getD img (at bs q) 0
+    f q = getD img (at ino q) 0
 
 -- one run at the front of the buffer
-pub read-run : (img bs buf last : List ℕ) (p s r n : ℕ) → s ≡ at bs p → p % 512 + r ≤ 512 → s + r ≤ length img → n ≡ r → last ≡ take n (drop s img) → last ++ drop (r - 0) buf ≡ table (λ q. getD img (at bs q) 0) p r ++ drop r buf
-read-run img bs buf last p s r n e h l m t =
-    let part : last ≡ table (λ q. getD img (at bs q) 0) p r = rw (t, m, e) (sym (table-run img bs p r h (rw e at l))) in
+pub read-run : (img ino buf last : List ℕ) (p s r n : ℕ) → s ≡ at ino p → Straight ino p r → s + r ≤ length img → n ≡ r → last ≡ take n (drop s img) → last ++ drop (r - 0) buf ≡ table (λ q. getD img (at ino q) 0) p r ++ drop r buf
+read-run img ino buf last p s r n e near l m t =
+    let part : last ≡ table (λ q. getD img (at ino q) 0) p r = rw (t, m, e) (sym (table-run img ino p r near (rw e at l))) in
     rw (sub-zero, part)
 
 -- one more run behind the d bytes that buf has, n being the rest of its length

@@ -1,7 +1,7 @@
 -- Bytes compared by runs.
 use mathlib.Core.Path.{_≡_, refl, sym, ap, _∙_}
 use mathlib.Core.Bool.{Bool, true, _&&_, and-assoc}
-use Prim.Native.Nat.{ℕ, _+_, _-_, _%_, _≤_}
+use Prim.Native.Nat.{ℕ, _+_, _-_, _≤_}
 use mathlib.Core.List.{List, [], _∷_, _++_}
 use native.Mathlib.Omega.{arith}
 use native.Mathlib.Nat.{add-zero, sub-zero}
@@ -10,7 +10,7 @@ use lib.ListN.{length, getD, take, drop, length-drop, take-append-drop, drop-of-
 use lib.Seq.{drop-drop, length-take-le}
 use Rattle.lists.specs.Lists.{sameList, table}
 use Rattle.list_laws.specs.Table.{length-table}
-use Rattle.tfs_runs.specs.Place.{at}
+use Rattle.tfs_runs.specs.Place.{at, Straight}
 use Rattle.tfs_runs.specs.Read.{table-join, table-run}
 
 -- lists compared part by part
@@ -21,26 +21,26 @@ same-append (x ∷ a) b [] d e = absurd (omega (arith, e))
 same-append (x ∷ a) b (y ∷ c) d e =
     ap (λ (t : Bool). eqb x y && t) (same-append a b c d (omega (arith, e))) ∙ sym (and-assoc (eqb x y) (sameList a c) (sameList b d))
 
--- one run: a part of the image
-pub same-run : (img bs bytes : List ℕ) (p s n : ℕ) → s ≡ at bs p → p % 512 + length bytes ≤ 512 → s + length bytes ≤ length img → n ≡ length bytes → sameList bytes (take n (drop s img)) ≡ sameList bytes (table (λ q. getD img (at bs q) 0) p (length bytes))
-same-run img bs bytes p s n e h l m = rw (m, e) (ap (sameList bytes) (sym (table-run img bs p (length bytes) h (rw e at l))))
-
 -- the rest behind d bytes: its first r, then the rest behind those
 abbrev pub SameFrom : (ℕ → ℕ) → ℕ → List ℕ → ℕ → Bool
 SameFrom f o bytes d = sameList (drop d bytes) (table f (o + d) (length bytes - d))
 
-pub same-turn : (f : ℕ → ℕ) (o d r n : ℕ) (bytes : List ℕ) (t : Bool) → d + r ≤ length bytes → n ≡ r → t ≡ sameList (take n (drop d bytes)) (table f (o + d) (length (take n (drop d bytes)))) → SameFrom f o bytes d ≡ (t && SameFrom f o bytes (d + r))
-same-turn f o d r n bytes t h m e =
+pub same-turn : (img ino bytes : List ℕ) (o d s r n m : ℕ) (t : Bool) → s ≡ at ino (o + d) → Straight ino (o + d) r → s + r ≤ length img → d + r ≤ length bytes → n ≡ r → m ≡ r → t ≡ sameList (take n (drop d bytes)) (take m (drop s img)) → SameFrom (λ p. getD img (at ino p) 0) o bytes d ≡ (t && SameFrom (λ p. getD img (at ino p) 0) o bytes (d + r))
+same-turn img ino bytes o d s r n m t e near l h en em q =
     let short : length (take r (drop d bytes)) ≡ r = length-take-le r (drop d bytes) (simp length-drop (omega arith)) in
     let a : o + (d + r) ≡ o + d + r = omega arith in
     let b : r + (length bytes - (d + r)) ≡ length bytes - d = omega arith in
     let tables : table f (o + d) r ++ table f (o + (d + r)) (length bytes - (d + r)) ≡ table f (o + d) (length bytes - d) =
     rw a (table-join f (o + d) r (length bytes - (d + r)) ∙ ap (table f (o + d)) b) in
-    rw (e, m, short)
+    let part : take r (drop s img) ≡ table f (o + d) r = rw e (sym (table-run img ino (o + d) r near (rw e at l))) in
+    rw (q, en, em, part)
     (ap (λ (l : List ℕ). sameList l (table f (o + d) (length bytes - d))) (sym (take-append-drop r (drop d bytes)))
     ∙ ap (sameList (take r (drop d bytes) ++ drop r (drop d bytes))) (sym tables)
     ∙ same-append (take r (drop d bytes)) (drop r (drop d bytes)) (table f (o + d) r) (table f (o + (d + r)) (length bytes - (d + r))) (short ∙ sym (length-table f (o + d) r))
     ∙ ap (λ (l : List ℕ). sameList (take r (drop d bytes)) (table f (o + d) r) && sameList l (table f (o + (d + r)) (length bytes - (d + r)))) (drop-drop r d bytes))
+  where
+    f : ℕ → ℕ
+    f p = getD img (at ino p) 0
 
 -- all of it, and nothing left
 pub same-start : (f : ℕ → ℕ) (o : ℕ) (bytes : List ℕ) → SameFrom f o bytes 0 ≡ sameList bytes (table f o (length bytes))

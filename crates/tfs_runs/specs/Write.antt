@@ -1,6 +1,6 @@
 -- Bytes stored by runs.
 use mathlib.Core.Path.{_≡_, refl, sym, ap, _∙_}
-use Prim.Native.Nat.{ℕ, suc, _+_, _-_, _%_, _≤_, _<_}
+use Prim.Native.Nat.{ℕ, suc, _+_, _-_, _≤_, _<_}
 use mathlib.Core.List.{List, [], _∷_, _++_, append-assoc}
 use native.Mathlib.Omega.{arith}
 use native.Mathlib.Nat.{add-zero, sub-zero}
@@ -8,13 +8,7 @@ use lib.ListN.{length, set, take, drop}
 use lib.Seq.{sets, sets-eq, drop-drop, length-take-le, take-add, take-take}
 use Rattle.lists.specs.Lists.{withPart, storeAt}
 use Rattle.list_laws.specs.Store.{store-join}
-use Rattle.tfs_runs.specs.Place.{at, at-run}
-
--- only the addresses of the positions stored to count
-pub store-cong : (a b : ℕ → ℕ) (img : List ℕ) (o : ℕ) (bs : List ℕ) → ((p : ℕ) → o ≤ p → p < o + length bs → a p ≡ b p) → storeAt a img o bs ≡ storeAt b img o bs
-store-cong a b img o [] h = refl
-store-cong a b img o (x ∷ bs) h =
-    rw (h o (omega arith) (omega arith)) (store-cong a b (set img (b o) x) (suc o) bs (λ p l u. h p (omega arith) (omega arith)))
+use Rattle.tfs_runs.specs.Place.{at, Straight}
 
 sets-store : (a : ℕ → ℕ) (bs img : List ℕ) (o s : ℕ) → ((i : ℕ) → i < length bs → a (o + i) ≡ s + i) → storeAt a img o bs ≡ sets img s bs
 sets-store a [] img o s h = refl
@@ -28,12 +22,12 @@ unfolding withPart
 store-run a bs img o s h l = sets-store a bs img o s h ∙ sets-eq bs img s l ∙ rw (append-assoc, drop-drop)
 
 -- a run of the file is one part put
-pub write-run : (img bs src last : List ℕ) (p s r n : ℕ) → s ≡ at bs p → p % 512 + r ≤ 512 → s + r ≤ length img → r ≤ length src → n ≡ r → last ≡ take (r - 0) src → take s img ++ (last ++ drop n (drop s img)) ≡ storeAt (at bs) img p (take r src)
+pub write-run : (img ino src last : List ℕ) (p s r n : ℕ) → s ≡ at ino p → Straight ino p r → s + r ≤ length img → r ≤ length src → n ≡ r → last ≡ take (r - 0) src → take s img ++ (last ++ drop n (drop s img)) ≡ storeAt (at ino) img p (take r src)
 unfolding withPart
-write-run img bs src last p s r n e h l k m t =
+write-run img ino src last p s r n e near l k m t =
     let long : length (take r src) ≡ r = length-take-le r src k in
     rw (t, sub-zero, m)
-    (sym (rw long at (store-run (at bs) (take r src) img p s (λ i j. at-run bs p i (omega (arith, long)) ∙ ap (λ (x : ℕ). x + i) (sym e)) (omega (arith, long)))))
+    (sym (rw long at (store-run (at ino) (take r src) img p s (λ i j. near i (omega (arith, long)) ∙ ap (λ (x : ℕ). x + i) (sym e)) (omega (arith, long)))))
 
 -- one more run behind the d bytes stored, of the n bytes that follow them
 pub write-turn : (a : ℕ → ℕ) (img buf old last : List ℕ) (o d r n : ℕ) → d ≤ length buf → r ≤ n → old ≡ storeAt a img o (take d buf) → last ≡ storeAt a old (o + d) (take r (take n (drop d buf))) → last ≡ storeAt a img o (take (d + r) buf)

@@ -4,10 +4,15 @@ ghost use Prim.Native.Nat.{_+_, _*_, _≤_, _<_};
 ghost use lib.ListN.{length};
 ghost use Rattle.lists.specs.Lists.{zeros, withPart};
 ghost use Rattle.tfs_spec.specs.Requests.{storeAll, zeroStores};
-ghost use Rattle.tfs_runs.specs.Place.{Inside};
-ghost use Rattle.tfs_runs.specs.Blank.{Neighbours};
-use crate::run::wide;
+ghost use Rattle.tfs_runs.specs.Blank.{AllInside, Neighbours};
 use tfs_layout::BLOCK;
+
+// x, in more bits.
+fn wide(x: u32) -> usize
+    ensures { λ r. ⌜ (r ≡ x) × (r < 4294967296) ⌝ }
+{
+    x as usize
+}
 
 // How many listed blocks, from place i of the list on, stand one after another in the image.
 fn neighbours(blocks: &[u32], i: usize) -> usize
@@ -37,7 +42,7 @@ fn zero_span(image: &mut [u8], b: usize, n: usize)
 
 // Makes every listed block zero, in order; neighbours in one fill.
 pub fn zero_blocks(image: &mut [u8], blocks: &[u32])
-    requires { ⌜ Inside (now blocks) (length (now image)) ⌝ }
+    requires { ⌜ AllInside (now blocks) (length (now image)) ⌝ }
     ensures { λ _. ⌜ now (image .exit) ≡ storeAll 512 (now (image .entry)) (zeroStores 512 (now (blocks .entry))) ⌝ }
 {
     let mut i = 0;

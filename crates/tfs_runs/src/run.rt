@@ -1,34 +1,49 @@
 // Where a run lies and how long it is.
 ghost use mathlib.Core.Path.{_≡_};
-ghost use Prim.Native.Nat.{_-_, _*_, _%_, _<_, min};
+ghost use Prim.Native.Nat.{_+_, _-_, _/_, _%_, _≤_, _<_};
 ghost use lib.ListN.{length};
-ghost use Rattle.tfs_runs.specs.Place.{at};
+ghost use Rattle.tfs_spec.specs.Layout.{inodeNumber};
+ghost use Rattle.tfs_runs.specs.Place.{at, Small, Straight};
+use spans::copy::MOST;
+use tfs_inode::read::block_number;
 use tfs_layout::BLOCK;
+use tfs_layout::smaller;
 
-// x, in more bits.
-pub fn wide(x: u32) -> usize
-    ensures { λ r. ⌜ (r ≡ x) × (r < 4294967296) ⌝ }
-{
-    x as usize
+// Where a run begins in the image, and its length in bytes.
+pub struct Run {
+    pub at: usize,
+    pub len: usize,
 }
 
-// The place of position p of the file in the image.
-pub fn place(blocks: &[u32], p: usize) -> usize
-    requires { ⌜ p < 512 * length (now blocks) ⌝ }
-    ensures { λ r. ⌜ r ≡ at (now (blocks .entry)) p ⌝ }
+// So many bytes from position p on lie one after another, at least 1 and at most `most`: as far as the blocks are seen to be neighbours. b is
+// the number of the block of p, which has `first` bytes from there on.
+fn straight(ino: &[u8], p: usize, b: usize, first: usize, most: usize) -> usize
+    requires { ⌜ (length (now ino) ≡ 512) × (0 < most) × (p + most ≤ 65024) × Small (now ino) (p + most) × (b ≡ inodeNumber (now ino) (p / 512)) × (first ≡ 512 - p % 512) ⌝ }
+    ensures { λ r. ⌜ (0 < r) × (r ≤ most) × Straight (now (ino .entry)) p r ⌝ }
 {
     let k = p / BLOCK;
-    let b = blocks[k];
-    wide(b) * BLOCK + p % BLOCK
+    let mut len = first;
+    let mut n = 1;
+    while len < most {
+        if block_number(ino, k + n) != b + n {
+            return len;
+        }
+        len += BLOCK;
+        n += 1;
+    }
+    most
 }
 
-// The number of bytes from position p on that lie in one block, at most left.
-pub fn room(p: usize, left: usize) -> usize
-    ensures { λ r. ⌜ r ≡ min (512 - p % 512) left ⌝ }
+// The run from position p on, of at most left bytes and no more than one copy takes.
+pub fn run_of(ino: &[u8], p: usize, left: usize) -> Run
+    requires { ⌜ (length (now ino) ≡ 512) × (0 < left) × (p + left ≤ 65024) × Small (now ino) (p + left) ⌝ }
+    ensures { λ r. ⌜ (r .at ≡ at (now (ino .entry)) p) × (0 < r .len) × (r .len ≤ left) × (r .len ≤ 32768) × Straight (now (ino .entry)) p (r .len) ⌝ }
 {
-    let in_block = BLOCK - p % BLOCK;
-    if in_block < left {
-        return in_block;
+    let b = block_number(ino, p / BLOCK);
+    let skip = p % BLOCK;
+    let len = straight(ino, p, b, BLOCK - skip, smaller(left, MOST));
+    Run {
+        at: b * BLOCK + skip,
+        len,
     }
-    left
 }

@@ -1,32 +1,33 @@
 // From a buffer to the blocks of a file.
 ghost use mathlib.Core.Path.{_≡_};
-ghost use Prim.Native.Nat.{_+_, _-_, _*_, _%_, _≤_, _<_, min};
+ghost use Prim.Native.Nat.{_+_, _≤_, _<_};
 ghost use lib.ListN.{length, take};
 ghost use Rattle.lists.specs.Lists.{storeAt};
-ghost use Rattle.tfs_runs.specs.Place.{at, Inside};
-use crate::run::place;
-use crate::run::room;
+ghost use Rattle.tfs_runs.specs.Place.{at, Small, Inside};
+use crate::run::run_of;
+use spans::copy::copy_run;
 
-// Writes one run, from position p of the file on: to the end of its block, at most the bytes of src.
-fn write_run(image: &mut [u8], blocks: &[u32], p: usize, src: &[u8]) -> usize
-    requires { ⌜ Inside (now blocks) (length (now image)) × (0 < length (now src)) × (p + length (now src) ≤ 512 * length (now blocks)) ⌝ }
-    ensures { λ r. ⌜ (r ≡ min (512 - p % 512) (length (now (src .entry)))) × (now (image .exit) ≡ storeAt (at (now (blocks .entry))) (now (image .entry)) p (take r (now (src .entry)))) ⌝ }
+// Writes one run, from position p of the file on, of at most the bytes of src.
+fn write_run(image: &mut [u8], ino: &[u8], p: usize, src: &[u8]) -> usize
+    requires { ⌜ (length (now ino) ≡ 512) × Small (now ino) (p + length (now src)) × Inside (now ino) (p + length (now src)) (length (now image)) × (0 < length (now src)) × (p + length (now src) ≤ 65024) ⌝ }
+    ensures { λ r. ⌜ (0 < r) × (r ≤ length (now (src .entry))) × (now (image .exit) ≡ storeAt (at (now (ino .entry))) (now (image .entry)) p (take r (now (src .entry)))) ⌝ }
 {
-    let s = place(blocks, p);
-    let run = room(p, src.len());
-    let e = s + run;
-    spans::copy::copy(&mut image[s..e], &src[0..run]);
-    run
+    let run = run_of(ino, p, src.len());
+    let s = run.at;
+    let n = run.len;
+    let e = s + n;
+    copy_run(&mut image[s..e], &src[0..n]);
+    n
 }
 
-// Writes the first count bytes of buf, from position offset of the file on.
-pub fn write_runs(image: &mut [u8], blocks: &[u32], offset: usize, buf: &[u8], count: usize)
-    requires { ⌜ Inside (now blocks) (length (now image)) × (count ≤ length (now buf)) × (offset + count ≤ 512 * length (now blocks)) × (length (now blocks) ≤ 127) ⌝ }
-    ensures { λ _. ⌜ now (image .exit) ≡ storeAt (at (now (blocks .entry))) (now (image .entry)) offset (take count (now (buf .entry))) ⌝ }
+// Writes the first count bytes of buf, from position offset of the file on. ino is a copy of the inode, as the image changes.
+pub fn write_runs(image: &mut [u8], ino: &[u8], offset: usize, buf: &[u8], count: usize)
+    requires { ⌜ (length (now ino) ≡ 512) × Small (now ino) (offset + count) × Inside (now ino) (offset + count) (length (now image)) × (count ≤ length (now buf)) × (offset + count ≤ 65024) ⌝ }
+    ensures { λ _. ⌜ now (image .exit) ≡ storeAt (at (now (ino .entry))) (now (image .entry)) offset (take count (now (buf .entry))) ⌝ }
 {
     let mut done = 0;
     while done < count {
-        let run = write_run(image, blocks, offset + done, &buf[done..count]);
+        let run = write_run(image, ino, offset + done, &buf[done..count]);
         done += run;
     }
 }

@@ -11,7 +11,7 @@ use Rattle.tfs_facts.specs.Stores.{Fits, length-block, length-setBlock, block-o
 use Rattle.tfs_facts.specs.MapBits.{length-setBits}
 use Rattle.tfs_facts.specs.Views.{view-map, view-dir}
 use Rattle.tfs_facts.specs.Entries.{length-inode}
-use Rattle.tfs_runs.specs.Place.{Inside}
+use Rattle.tfs_runs.specs.Blank.{AllInside}
 
 -- every block is a content block, has a bit in the map, and lies inside an image of len bytes
 abbrev pub Placeable : List ℕ → ℕ → Type 0
@@ -26,7 +26,7 @@ placeable-below bs img h i l = (h i l .0, omega (arith, h i l .1), omega (arith,
 rest-is : (b : ℕ) (bs : List ℕ) → take (length (b ∷ bs) - 1) bs ≡ bs
 rest-is b bs = take-all (length (b ∷ bs) - 1) bs (omega arith)
 
-pub inside-rest : (bs : List ℕ) (len : ℕ) → Placeable bs len → Inside (take (length bs - 1) (drop 1 bs)) len
+pub inside-rest : (bs : List ℕ) (len : ℕ) → Placeable bs len → AllInside (take (length bs - 1) (drop 1 bs)) len
 inside-rest [] len h = λ i l. absurd (omega arith)
 inside-rest (b ∷ bs) len h = rw (rest-is b bs) (λ i l. h (suc i) (omega arith) .2)
 

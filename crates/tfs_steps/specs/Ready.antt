@@ -1,38 +1,26 @@
 -- What a passed check says of the parts that the code reads and writes.
 use mathlib.Core.Path.{_≡_, sym, ap, _∙_, subst}
 use mathlib.Core.Logic.{⊎-elim}
-use Prim.Native.Nat.{ℕ, zero, suc, _+_, _-_, _*_, _/_, _≤_, _<_}
-use mathlib.Core.List.{List, [], _++_}
+use Prim.Native.Nat.{ℕ, zero, suc, _+_, _*_, _≤_, _<_}
+use mathlib.Core.List.{List, []}
 use native.Mathlib.Omega.{arith}
 use native.Mathlib.Nat.{zero-add}
-use lib.ListN.{length, getD, take, drop}
+use lib.ListN.{length, getD}
 use lib.Dec.{T, T-not}
-use lib.Seq.{take-at}
 use Rattle.list_laws.specs.Test.{cond-no}
-use Rattle.lists.specs.Lists.{table, storeAt}
-use Rattle.list_laws.specs.Table.{length-table, getD-table, table-cong}
+use Rattle.lists.specs.Lists.{table}
+use Rattle.list_laws.specs.Table.{length-table, getD-table}
 use Rattle.tfs_spec.specs.Layout.{need, blocks, block, slot, inodeSize, inodeNumber, View, view, free, used, inode, name, size, number, place}
 use Rattle.tfs_spec.specs.Check.{consistent, check, fileClaims}
 use Rattle.tfs_spec.specs.Consistent.{File, Consistent}
 use Rattle.tfs_spec.specs.Consistent as rules
 use Rattle.tfs_facts.specs.CheckMeans.{check-means, used-inode, need-le}
 use Rattle.tfs_facts.specs.Slots.{used-named, used-short}
-use Rattle.tfs_facts.specs.Sizes.{in-image, in-need, size-512}
+use Rattle.tfs_facts.specs.Sizes.{in-image, size-512}
 use Rattle.tfs_facts.specs.Views.{view-n, inode-block}
 use Rattle.tfs_map.specs.Under.{Under}
 use Rattle.tfs_inode.specs.Claims.{claimList, file-claims}
-use Rattle.tfs_runs.specs.Place.{at, Inside, at-place}
-use Rattle.tfs_runs.specs.Write.{store-cong}
-
--- the content blocks that an inode lists
-unfoldable pub contentList : List ℕ → List ℕ
-contentList ino = table (inodeNumber ino) 0 (need 512 (inodeSize ino))
-
--- the blocks of a file without the inode's own, cut out of the array that holds them
-pub content-cut : (b : ℕ) (ino rest : List ℕ) (k : ℕ) → k ≡ 1 + need 512 (inodeSize ino) → take (k - 1) (drop 1 (claimList b ino ++ rest)) ≡ contentList ino
-unfolding claimList contentList
-content-cut b ino rest k e =
-    take-at (table (inodeNumber ino) 0 (need 512 (inodeSize ino))) rest (k - 1) (length-table (inodeNumber ino) 0 (need 512 (inodeSize ino)) ∙ omega arith)
+use Rattle.tfs_runs.specs.Place.{at, Small, Inside, at-place}
 
 module _ (img : List ℕ) (passed : check 512 img ≡ consistent) where
   abbrev v : View
@@ -44,7 +32,7 @@ module _ (img : List ℕ) (passed : check 512 img ≡ consistent) where
   pub long : 1536 ≤ length img
   long = ok .long
 
-  pub blocks-high : blocks 512 img ≤ 4096
+  blocks-high : blocks 512 img ≤ 4096
   unfolding blocks
   blocks-high = omega arith
 
@@ -86,7 +74,7 @@ module _ (img : List ℕ) (passed : check 512 img ≡ consistent) where
     pub size-small : size v s ≤ 65024
     size-small = ok .sound .small s f
 
-    pub need-few : need 512 (inodeSize (block 512 img (inode v s))) ≤ 127
+    need-few : need 512 (inodeSize (block 512 img (inode v s))) ≤ 127
     need-few = need-le 512 (inodeSize (block 512 img (inode v s))) 127 (omega arith) (omega (arith, size-is, size-small))
 
     -- the same of the block that the code has as the inode, and of the size that it reads there
@@ -110,22 +98,20 @@ module _ (img : List ℕ) (passed : check 512 img ≡ consistent) where
     needed : need 512 (size v s) ≡ need 512 (inodeSize (block 512 img (inode v s)))
     needed = ap (need 512) size-is
 
-    pub listed : (k : ℕ) → k < need 512 (size v s) → getD (contentList (block 512 img (inode v s))) k 0 ≡ number v s k
-    unfolding contentList
-    listed k h =
-        getD-table (inodeNumber ino) 0 (need 512 (inodeSize ino)) k 0 (omega (arith, needed))
-        ∙ ap (inodeNumber ino) (zero-add k)
-        ∙ sym (number-is k)
+    -- a block that one of its bytes lies in
+    number-below : (k : ℕ) → k * 512 < size v s → inodeNumber (block 512 img (inode v s)) k < blocks 512 img
+    unfolding need
+    number-below k h = omega (arith, ok .sound .inside s k f (omega arith) .high, view-n 512 img, number-is k)
 
-    pub length-content-list : length (contentList (block 512 img (inode v s))) ≡ need 512 (inodeSize (block 512 img (inode v s)))
-    unfolding contentList
-    length-content-list = length-table (inodeNumber ino) 0 (need 512 (inodeSize ino))
+    pub content-small : (e : ℕ) → e ≤ size v s → Small (block 512 img (inode v s)) e
+    content-small e h k l = omega (arith, number-below k (omega arith), blocks-high)
 
-    pub content-inside : Inside (contentList (block 512 img (inode v s))) (length img)
-    content-inside i h =
-        let k : i < need 512 (size v s) = omega (arith, length-content-list, needed) in
-        let c : rules.Inside v (number v s i) = ok .sound .inside s i f k in
-        omega (arith, listed i k, in-image 512 (number v s i) img (subst (λ (n : ℕ). number v s i < n) (view-n 512 img) (c .high)))
+    pub content-inside : (e : ℕ) → e ≤ size v s → Inside (block 512 img (inode v s)) e (length img)
+    content-inside e h k l = in-image 512 (inodeNumber ino k) img (number-below k (omega arith))
+
+    -- its bytes lie where its inode says
+    pub place-is : at (block 512 img (inode v s)) ≡ place 512 v s
+    place-is = ap at (sym ino-is) ∙ at-place v s
 
     pub claims-under : Under 4096 (claimList (inode v s) (block 512 img (inode v s)))
     unfolding claimList
@@ -138,19 +124,3 @@ module _ (img : List ℕ) (passed : check 512 img ≡ consistent) where
         getD-table (inodeNumber ino) 0 (need 512 (inodeSize ino)) i 0 l ∙ ap (inodeNumber ino) (zero-add i) ∙ sym (number-is i)
         in
         omega (arith, c .high, view-n 512 img, blocks-high)
-
-    -- the bytes of the file lie where the list says
-    pub place-is : (p : ℕ) → p < size v s → at (contentList (block 512 img (inode v s))) p ≡ place 512 v s p
-    place-is p h = at-place v s (contentList ino) p (listed (p / 512) (in-need 512 (omega arith) p (size v s) h))
-
-    pub read-is : (o c : ℕ) → o + c ≤ size v s → table (λ p. getD img (at (contentList (block 512 img (inode v s))) p) 0) o c ≡ table (λ p. getD img (place 512 v s p) 0) o c
-    read-is o c h =
-        table-cong (λ p. getD img (at (contentList ino) p) 0) (λ p. getD img (place 512 v s p) 0) o c (λ p a l. ap (λ (q : ℕ). getD img q 0) (place-is p (omega arith)))
-
-    pub write-is : (o : ℕ) (bs : List ℕ) → o + length bs ≤ size v s → storeAt (at (contentList (block 512 img (inode v s)))) img o bs ≡ storeAt (place 512 v s) img o bs
-    write-is o bs h = store-cong (at (contentList ino)) (place 512 v s) img o bs (λ p a l. place-is p (omega arith))
-
-    -- a transfer within the size is within the listed blocks
-    pub within : (o c : ℕ) → o + c ≤ size v s → o + c ≤ 512 * length (contentList (block 512 img (inode v s)))
-    unfolding need
-    within o c h = omega (arith, length-content-list, size-is)

@@ -14,7 +14,6 @@ use Rattle.tfs_spec.specs.Consistent.{File}
 use Rattle.tfs_spec.specs.Requests.{Answer, refused, refusalOf, granted, transferred, blocksMet, transferAnswer, Outcome, readFile}
 use Rattle.tfs_spec.specs.Replays.{bytesRead}
 use Rattle.tfs_runs.specs.Place.{at}
-use Rattle.tfs_steps.specs.Ready.{contentList}
 use Rattle.tfs_transfer.specs.Transfer.{Moves, allowed, read-all}
 use Rattle.tfs_transfer.specs.declared.compare.Compared.{Compared}
 use Rattle.tfs_transfer.specs.declared.compare.Compared.the-variants.{Same, Differs, Refused}
@@ -43,20 +42,20 @@ Compares o bytes r = (comparedRefusal r ≡ refusalOf (o .answer)) × (comparedS
 pub compare-refused : (img : List ℕ) (s o len num : ℕ) (bytes : List ℕ) → refused num 0 ≡ transferAnswer 512 (view 512 img) s o len → 8 ≤ num → Compares (readFile 512 img s o (zeros len)) bytes (Refused num)
 compare-refused img s o len num bytes e h = rw (length-replicate, ← e) (refl, refl, h)
 
--- the read puts c bytes into the buffer, out of the blocks bs
-module _ (img : List ℕ) (passed : check 512 img ≡ consistent) (s : ℕ) (f : File 512 (view 512 img) s) (o len c : ℕ) (a : Moves (view 512 img) s o len c) (bs : List ℕ) (e : bs ≡ contentList (block 512 img (inode (view 512 img) s))) where
+-- the read puts c bytes into the buffer, by the inode ino
+module _ (img : List ℕ) (passed : check 512 img ≡ consistent) (s : ℕ) (f : File 512 (view 512 img) s) (o len c : ℕ) (a : Moves (view 512 img) s o len c) (ino : List ℕ) (e : ino ≡ block 512 img (inode (view 512 img) s)) where
   abbrev got : Outcome
   got = readFile 512 img s o (zeros len)
 
   abbrev file : ℕ → ℕ
-  file p = getD img (at bs p) 0
+  file p = getD img (at ino p) 0
 
   answer-is : readFile 512 img s o (zeros len) .answer ≡ transferred c (blocksMet 512 o c)
   answer-is = rw length-replicate (allowed a)
 
   gives : bytesRead (readFile 512 img s o (zeros len)) ≡ table file o c
   gives =
-      rw (answer-is, ← read-all img passed s f o len c a bs e (zeros len) (table file o c ++ drop c (zeros len)) (sym (length-replicate len 0)) refl)
+      rw (answer-is, ← read-all img passed s f o len c a ino e (zeros len) (table file o c ++ drop c (zeros len)) (sym (length-replicate len 0)) refl)
       (take-at (table file o c) (drop c (zeros len)) c (length-table file o c))
 
   compared : (bytes : List ℕ) (r : Compared) → comparedRefusal r ≡ 0 → ComparedFits r → comparedSame r ≡ sameList bytes (table file o c) → Compares (readFile 512 img s o (zeros len)) bytes r

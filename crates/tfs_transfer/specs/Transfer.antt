@@ -1,21 +1,19 @@
 -- What a transfer with the file in a slot comes to, from the numbers that the code has in hand.
-use mathlib.Core.Path.{_≡_, sym}
-use Prim.Native.Nat.{ℕ, _+_, _-_, _*_, _≤_, _<_, min}
+use mathlib.Core.Path.{_≡_, sym, ap, _∙_}
+use Prim.Native.Nat.{ℕ, _+_, _-_, _≤_, _<_, min}
 use mathlib.Core.List.{List, _++_}
 use native.Mathlib.Omega.{arith}
-use lib.ListN.{length, getD, take, drop, length-append}
-use lib.Seq.{length-take-le}
+use lib.ListN.{length, getD, take, drop}
 use borrow.Author.Tests.{lt-ltb, le-ltb}
 use Rattle.lists.specs.Lists.{table, storeAt}
-use Rattle.tfs_spec.specs.Layout.{need, block, inodeSize, View, view, inode, size}
+use Rattle.tfs_spec.specs.Layout.{block, View, view, inode, size, place}
 use Rattle.tfs_spec.specs.Check.{consistent, check}
 use Rattle.tfs_spec.specs.Consistent.{File}
 use Rattle.tfs_spec.specs.Requests.{Answer, refused, transferred, counted, blocksMet, transferAnswer, readBuffer, writeImage}
-use Rattle.tfs_inode.specs.Claims.{claimList, length-claims}
-use Rattle.tfs_runs.specs.Place.{at, Inside}
+use Rattle.tfs_runs.specs.Place.{at, Small, Inside}
 use Rattle.tfs_transfer.specs.declared.Reach.{Reach}
 use Rattle.tfs_transfer.specs.declared.Reach.the-variants.{Bytes, Refused}
-use Rattle.tfs_steps.specs.Ready.{contentList, content-cut, need-few, length-content-list, content-inside, read-is, write-is, within}
+use Rattle.tfs_steps.specs.Ready.{size-small, content-small, content-inside, place-is}
 
 -- ---- c bytes are moved, from offset o on, for a buffer of len bytes
 pub record Moves (v : View) (s o len c : ℕ) : Type 0 where
@@ -43,42 +41,35 @@ module _ {v : View} {s o len c : ℕ} (a : Moves v s o len c) where
   unfolding transferAnswer
   allowed = rw (le-ltb (size v s) o (a .starts), counted-is)
 
--- ---- from 1 to k the list has the file's content blocks
-pub record Listed (img : List ℕ) (s k : ℕ) (list : List ℕ) : Type 0 where
-  pub some : 1 ≤ k
-  pub fits : k ≤ length list
-  pub content : take (k - 1) (drop 1 list) ≡ contentList (block 512 img (inode (view 512 img) s))
-
-pub listed : (img : List ℕ) (s b k : ℕ) (list rest : List ℕ) → b ≡ inode (view 512 img) s → k ≡ 1 + need 512 (inodeSize (block 512 img b)) → list ≡ claimList b (block 512 img b) ++ rest → Listed img s k list
-listed img s b k list rest e many u =
-    record { some = omega arith; fits = rw (u, length-append, length-claims) (omega arith); content = rw (u, ← e) (content-cut b (block 512 img b) rest k many) }
-
--- bs are those blocks
-module _ (img : List ℕ) (passed : check 512 img ≡ consistent) (s : ℕ) (f : File 512 (view 512 img) s) (o len c : ℕ) (a : Moves (view 512 img) s o len c) (bs : List ℕ) (e : bs ≡ contentList (block 512 img (inode (view 512 img) s))) where
-  pub runs-ready : Inside bs (length img) × (c ≤ len) × (o + c ≤ 512 * length bs) × (length bs ≤ 127)
-  runs-ready =
-      rw e
-      (content-inside img passed s f, omega (arith, a .count), within img passed s f o c (reach a), omega (arith, length-content-list img passed s f, need-few img passed s f))
+module _ (img : List ℕ) (passed : check 512 img ≡ consistent) (s : ℕ) (f : File 512 (view 512 img) s) (o len c : ℕ) (a : Moves (view 512 img) s o len c) where
+  ends : o + c ≤ 65024
+  ends = omega (arith, reach a, size-small img passed s f)
 
   -- so few that a 32-bit number tells them
   pub few-bytes : c < 4294967296
-  few-bytes = let ready = runs-ready in omega (arith, ready .2, ready .3)
+  few-bytes = omega (arith, ends)
 
-  pub read-all : (buf last : List ℕ) → len ≡ length buf → last ≡ table (λ p. getD img (at bs p) 0) o c ++ drop c buf → last ≡ readBuffer 512 (view 512 img) img s o buf
-  unfolding readBuffer
-  read-all buf last w r = rw (r, e, read-is img passed s f o c (reach a), ← w, counted-is a)
+  -- ino is the file's inode
+  module _ (ino : List ℕ) (e : ino ≡ block 512 img (inode (view 512 img) s)) where
+    pub runs-ready : Small ino (o + c) × Inside ino (o + c) (length img) × (c ≤ len) × (o + c ≤ 65024)
+    runs-ready = (rw e (content-small img passed s f (o + c) (reach a)), rw e (content-inside img passed s f (o + c) (reach a)), omega (arith, a .count), ends)
 
-  pub write-all : (buf last : List ℕ) → len ≡ length buf → last ≡ storeAt (at bs) img o (take c buf) → last ≡ writeImage 512 (view 512 img) img s o buf
-  unfolding writeImage
-  write-all buf last w r =
-      let short : length (take c buf) ≡ c = length-take-le c buf (omega (arith, a .count)) in
-      rw (r, e, write-is img passed s f o (take c buf) (omega (arith, short, reach a)), ← w, counted-is a)
+    places : at ino ≡ place 512 (view 512 img) s
+    places = ap at e ∙ place-is img passed s f
+
+    pub read-all : (buf last : List ℕ) → len ≡ length buf → last ≡ table (λ p. getD img (at ino p) 0) o c ++ drop c buf → last ≡ readBuffer 512 (view 512 img) img s o buf
+    unfolding readBuffer
+    read-all buf last w r = r ∙ ap (λ (h : ℕ → ℕ). table (λ p. getD img (h p) 0) o c ++ drop c buf) places ∙ rw (← w, counted-is a)
+
+    pub write-all : (buf last : List ℕ) → len ≡ length buf → last ≡ storeAt (at ino) img o (take c buf) → last ≡ writeImage 512 (view 512 img) img s o buf
+    unfolding writeImage
+    write-all buf last w r = rw (r, places, ← w, counted-is a)
 
 -- ---- what the code finds of a transfer from o on
 abbrev pub reachTold : ℕ → Reach → Answer
-reachTold o (Bytes c k) = transferred c (blocksMet 512 o c)
+reachTold o (Bytes c b) = transferred c (blocksMet 512 o c)
 reachTold o (Refused num) = refused num 0
 
-abbrev pub Reaches : List ℕ → ℕ → ℕ → ℕ → List ℕ → Reach → Type 0
-Reaches img s o len list (Bytes c k) = Moves (view 512 img) s o len c × Listed img s k list
-Reaches img s o len list (Refused num) = 8 ≤ num
+abbrev pub Reaches : List ℕ → ℕ → ℕ → ℕ → Reach → Type 0
+Reaches img s o len (Bytes c b) = Moves (view 512 img) s o len c × (b ≡ inode (view 512 img) s)
+Reaches img s o len (Refused num) = 8 ≤ num

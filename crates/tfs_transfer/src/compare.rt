@@ -10,7 +10,7 @@ use crate::Reach;
 use crate::reach_of;
 use tfs_dir::lookup::Lookup;
 use tfs_dir::lookup::look_up;
-use tfs_layout::FILE_BLOCKS;
+use tfs_layout::block_of;
 use tfs_runs::same::same_runs;
 
 // The read gives these bytes, gives others, or is refused by a number.
@@ -25,14 +25,13 @@ fn compare_file(image: &[u8], s: usize, offset: u32, len: u32, bytes: &[u8]) -> 
     requires { ⌜ (check 512 (now image) ≡ consistent) × File 512 (view 512 (now image)) s ⌝ }
     ensures { λ r. ⌜ Compares (readFile 512 (now (image .entry)) s offset (zeros len)) (now (bytes .entry)) r ⌝ }
 {
-    let mut list = [0u32; FILE_BLOCKS];
-    match reach_of(image, s, offset, len as usize, &mut list) {
+    match reach_of(image, s, offset, len as usize) {
         Reach::Refused(n) => Compared::Refused(n),
-        Reach::Bytes(count, k) => {
+        Reach::Bytes(count, b) => {
             if bytes.len() != count {
                 return Compared::Differs;
             }
-            if same_runs(image, &list[1..k], offset as usize, bytes) {
+            if same_runs(image, block_of(image, b), offset as usize, bytes) {
                 return Compared::Same;
             }
             Compared::Differs

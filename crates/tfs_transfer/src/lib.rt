@@ -9,13 +9,15 @@ ghost use Rattle.tfs_spec.specs.Consistent.{File};
 ghost use Rattle.tfs_spec.specs.Requests.{transferAnswer, readFile, readStep, writeFile, writeStep};
 ghost use Rattle.tfs_transfer.specs.Told.{movedTold, MovedFits};
 ghost use Rattle.tfs_transfer.specs.Transfer.{reachTold, Reaches};
+use spans::copy::copy;
 use tfs_dir::lookup::Lookup;
 use tfs_dir::lookup::look_up;
 use tfs_dir::volume::inode_at;
-use tfs_inode::volume::file_blocks;
 use tfs_inode::volume::file_size;
-use tfs_layout::FILE_BLOCKS;
+use tfs_layout::BLOCK;
+use tfs_layout::block_of;
 use tfs_layout::blocks_met;
+use tfs_layout::smaller;
 use tfs_runs::read::read_runs;
 use tfs_runs::write::write_runs;
 
@@ -25,7 +27,7 @@ pub enum Moved {
     Refused(u32),
 }
 
-// How far a transfer reaches: how many bytes it moves and how many blocks the file has with its inode's, or the refusal's number.
+// How far a transfer reaches: how many bytes it moves and which block is the file's inode, or the refusal's number.
 pub enum Reach {
     Bytes(usize, usize),
     Refused(u32),
@@ -36,29 +38,20 @@ fn count_of(len: usize, size: u32, offset: u32) -> usize
     requires { ⌜ offset ≤ size ⌝ }
     ensures { λ r. ⌜ r ≡ min len (size - offset) ⌝ }
 {
-    let left = (size - offset) as usize;
-    if len < left { len } else { left }
+    smaller(len, (size - offset) as usize)
 }
 
-// How far a transfer with a buffer of len bytes reaches in the file in slot s, whose blocks go to the front of list.
-pub fn reach_of(
-    image: &[u8],
-    s: usize,
-    offset: u32,
-    len: usize,
-    list: &mut [u32; FILE_BLOCKS],
-) -> Reach
+// How far a transfer with a buffer of len bytes reaches in the file in slot s.
+pub fn reach_of(image: &[u8], s: usize, offset: u32, len: usize) -> Reach
     requires { ⌜ (check 512 (now image) ≡ consistent) × File 512 (view 512 (now image)) s ⌝ }
-    ensures { λ r. ⌜ (reachTold offset r ≡ transferAnswer 512 (view 512 (now (image .entry))) s offset len) × Reaches (now (image .entry)) s offset len (now (list .exit)) r ⌝ }
+    ensures { λ r. ⌜ (reachTold offset r ≡ transferAnswer 512 (view 512 (now (image .entry))) s offset len) × Reaches (now (image .entry)) s offset len r ⌝ }
 {
     let b = inode_at(image, s) as usize;
     let size = file_size(image, b);
     if size < offset {
         return Reach::Refused(15);
     }
-    let count = count_of(len, size, offset);
-    let k = file_blocks(image, b, list);
-    Reach::Bytes(count, k)
+    Reach::Bytes(count_of(len, size, offset), b)
 }
 
 // Reads from the offset on of the file in slot s into the buffer; the rest of the buffer stays.
@@ -66,12 +59,11 @@ fn read_file(image: &[u8], s: usize, offset: u32, buf: &mut [u8]) -> Moved
     requires { ⌜ (check 512 (now image) ≡ consistent) × File 512 (view 512 (now image)) s ⌝ }
     ensures { λ r. ⌜ (movedTold r ≡ readFile 512 (now (image .entry)) s offset (now (buf .entry)) .answer) × (now (buf .exit) ≡ readFile 512 (now (image .entry)) s offset (now (buf .entry)) .buffer) × MovedFits r ⌝ }
 {
-    let mut list = [0u32; FILE_BLOCKS];
     let len = buf.len();
-    match reach_of(image, s, offset, len, &mut list) {
+    match reach_of(image, s, offset, len) {
         Reach::Refused(n) => Moved::Refused(n),
-        Reach::Bytes(count, k) => {
-            read_runs(image, &list[1..k], offset as usize, buf, count);
+        Reach::Bytes(count, b) => {
+            read_runs(image, block_of(image, b), offset as usize, buf, count);
             Moved::Granted {
                 count: count as u32,
                 blocks: blocks_met(offset, count as u32),
@@ -96,12 +88,13 @@ fn write_file(image: &mut [u8], s: usize, offset: u32, buf: &[u8]) -> Moved
     requires { ⌜ (check 512 (now image) ≡ consistent) × File 512 (view 512 (now image)) s ⌝ }
     ensures { λ r. ⌜ (movedTold r ≡ writeFile 512 (now (image .entry)) s offset (now (buf .entry)) .answer) × (now (image .exit) ≡ writeFile 512 (now (image .entry)) s offset (now (buf .entry)) .image) × MovedFits r ⌝ }
 {
-    let mut list = [0u32; FILE_BLOCKS];
     let len = buf.len();
-    match reach_of(image, s, offset, len, &mut list) {
+    match reach_of(image, s, offset, len) {
         Reach::Refused(n) => Moved::Refused(n),
-        Reach::Bytes(moved, k) => {
-            write_runs(image, &list[1..k], offset as usize, buf, moved);
+        Reach::Bytes(moved, b) => {
+            let mut ino = [0u8; BLOCK];
+            copy(&mut ino, block_of(image, b));
+            write_runs(image, &ino, offset as usize, buf, moved);
             Moved::Granted {
                 count: moved as u32,
                 blocks: blocks_met(offset, moved as u32),

@@ -14,8 +14,11 @@ struct Claim {
 const REQUESTS: &str = "TFS: a volume of 2 MiB";
 const LARGEST: &str = "TFS: read and write of 65,024 bytes";
 const LARGEST_LESS: &str = "TFS: read and write of 65,024 bytes, less the check";
+const FEW: &str = "TFS: read and write of few bytes, in a volume of 2 MiB with one file";
+const STORES: &str =
+    "TFS: the k-th store of files of 65,024 bytes, in a volume of 2 MiB with one file";
 
-const CLAIMS: [Claim; 8] = [
+const CLAIMS: [Claim; 12] = [
     Claim {
         words: "A check of 25 largest files takes at most 0.70 of the reference's time",
         most: 0.70,
@@ -49,10 +52,36 @@ const CLAIMS: [Claim; 8] = [
         about: |section, row| section == LARGEST_LESS && !row.ends_with("scattered blocks"),
     },
     Claim {
-        words: "A replay: at most 1.00 of the reference",
+        words: "A read or write of few bytes: at most 1.00 of the reference",
         most: 1.00,
         lane: "reference",
-        about: |section, _| section.starts_with("Traces: replay"),
+        about: |section, _| section == "TFS: read and write of 64 bytes" || section == FEW,
+    },
+    Claim {
+        words: "A store fetched: at most 1.00 of the reference",
+        most: 1.00,
+        lane: "reference",
+        about: |section, _| section == STORES,
+    },
+    Claim {
+        words: "A mend: at most 1.00 of the reference",
+        most: 1.00,
+        lane: "reference",
+        about: |section, _| section == "TFS: mend of a volume of 2 MiB, by its map",
+    },
+    Claim {
+        words: "A request on the timing file: at most 1.00 of the reference",
+        most: 1.00,
+        lane: "reference",
+        about: |section, _| section == "Timing file: a volume of 64 KiB with seven other files",
+    },
+    Claim {
+        words: "A replay of requests on few bytes: at most 1.00 of the reference",
+        most: 1.00,
+        lane: "reference",
+        about: |section, row| {
+            section.starts_with("Traces: replay") && !row.starts_with("write and read 65,024 bytes")
+        },
     },
     Claim {
         words: "A check of each romfs family at 1 MiB: at most 4 times its plain list",
@@ -187,5 +216,24 @@ mod tests {
         let (worst, verdict) = told(&[[0.1, 10.0, 10.0]], &[]);
         let expected = "**does not hold**: no ratio in one, in \"s\"";
         assert_eq!((&worst[..], &verdict[..]), ("-", expected));
+    }
+
+    #[test]
+    fn a_claim_on_a_difference_needs_only_the_one_of_the_reference() {
+        let claim = Claim {
+            about: |section, _| section == "s, less the check",
+            ..CLAIM
+        };
+        let told = |proved, reference| {
+            let mut facts = run([proved, 10.0, 10.0]);
+            facts[1].ns = reference;
+            for fact in &mut facts {
+                fact.section = "s, less the check".to_owned();
+            }
+            verdict(&claim, &Runs::of(&[facts], &[]).expect("runs")).1
+        };
+        assert_eq!(told(-0.1, 100.0), "holds in all 1 runs");
+        let expected = "**does not hold**: no ratio in one, in \"s, less the check\"";
+        assert_eq!(told(-0.1, 0.1), expected);
     }
 }

@@ -3,14 +3,17 @@
 use std::cell::RefCell;
 use std::hint::black_box;
 
-use reference::tfs::{BLOCK_SIZE, MOST_BLOCKS};
+use reference::tfs::{BLOCK_SIZE, LARGEST_FILE, MOST_BLOCKS};
 
 use crate::race::Race;
-use crate::runs::median;
+use crate::runs::{median, LESS_CHECK};
 use crate::table::Table;
 
-/// Gives a number for a volume, which may be changed but keeps its files and their sizes.
-pub type Ask = dyn FnMut(&mut [u8]) -> u32;
+/// Gives a number for a volume, which may be changed but keeps its files and their sizes, and a buffer of [`ROOM`] bytes.
+pub type Ask = dyn FnMut(&mut [u8], &mut [u8]) -> u32;
+
+/// The buffer has room for the largest file, then for a block.
+pub const ROOM: usize = LARGEST_FILE as usize + BLOCK_SIZE;
 
 /// A way to an answer.
 pub struct Way {
@@ -32,39 +35,62 @@ pub struct Times {
 
 const PAGE: usize = 4096;
 
-/// Where in a page a volume begins, each another one: what a check takes depends on both by more than a count lasts.
-const PLACES: [usize; 8] = [0, 520, 1040, 1560, 2080, 2600, 3120, 3640];
+/// Where in a page a volume and the buffer begin, each time elsewhere: what a check takes depends on the volume and its
+/// place by more than a count lasts, and what a copy takes on both places, above all on which are multiples of 16.
+const PLACES: [(usize, usize); 8] = [
+    (0, 0),
+    (520, 1560),
+    (1040, 3640),
+    (1560, 2080),
+    (2080, 1040),
+    (2600, 520),
+    (3120, 2600),
+    (3640, 3120),
+];
 
-/// The times of all ways on volumes of 2 MiB at most, each made from another seed.
+/// The times of all ways, which share a volume of 2 MiB at most and a buffer, at each place. Each volume is made from
+/// another seed, which a volume in blocks one after another does not depend on; behind it there may be as much as the buffer holds.
 pub fn times(rounds: usize, ways: &mut [Way], make: impl Fn(u64) -> Vec<u8>) -> Vec<Times> {
-    let mut space = vec![0; MOST_BLOCKS * BLOCK_SIZE + 2 * PAGE];
-    let page = space.as_ptr().align_offset(PAGE);
+    let mut volumes = vec![0; MOST_BLOCKS * BLOCK_SIZE + ROOM + 2 * PAGE];
+    let mut buffers = vec![0; ROOM + 2 * PAGE];
     let mut all = Vec::new();
-    for (seed, place) in (1..).zip(PLACES) {
+    for (seed, (of_volume, of_buffer)) in (1..).zip(PLACES) {
         let made = make(seed);
-        let image = &mut space[page + place..][..made.len()];
+        let image = at(&mut volumes, of_volume, made.len());
         image.copy_from_slice(&made);
-        assert_same_answers(ways, image);
-        all.extend(timed(rounds.div_ceil(PLACES.len()), ways, image));
+        let buffer = at(&mut buffers, of_buffer, ROOM);
+        buffer.fill(0x5A);
+        assert_same_answers(ways, image, buffer);
+        all.extend(timed(rounds.div_ceil(PLACES.len()), ways, image, buffer));
     }
     let lanes = (0..ways.len()).map(|way| lane(&all, way));
     lanes.collect()
 }
 
-fn assert_same_answers(ways: &mut [Way], image: &mut [u8]) {
-    let answers: Vec<u32> = ways.iter_mut().map(|way| (way.request)(image)).collect();
+/// So many bytes of a space from a place in a page on.
+fn at(space: &mut [u8], place: usize, length: usize) -> &mut [u8] {
+    let page = space.as_ptr().align_offset(PAGE);
+    &mut space[page + place..][..length]
+}
+
+fn assert_same_answers(ways: &mut [Way], image: &mut [u8], buffer: &mut [u8]) {
+    let answers = ways.iter_mut().map(|way| (way.request)(image, buffer));
+    let answers: Vec<u32> = answers.collect();
     let same = answers.iter().all(|answer| *answer == answers[0]);
     assert!(same, "{answers:?}");
 }
 
 /// The time of each way and of its check, which is next to nothing where there is none, in every round.
-fn timed(rounds: usize, ways: &mut [Way], image: &mut [u8]) -> Vec<Vec<f64>> {
-    let shared = &RefCell::new(image);
+fn timed(rounds: usize, ways: &mut [Way], image: &mut [u8], buffer: &mut [u8]) -> Vec<Vec<f64>> {
+    let shared = &RefCell::new((image, buffer));
     let mut race = Race::new(rounds);
     for way in ways {
         let (request, check) = (&mut way.request, way.check);
-        race = race.lane(move || request(black_box(&mut shared.borrow_mut())));
-        race = race.lane(move || check.map(|check| check(black_box(&shared.borrow()))));
+        race = race.lane(move || {
+            let (image, buffer) = &mut *shared.borrow_mut();
+            request(black_box(image), black_box(buffer))
+        });
+        race = race.lane(move || check.map(|check| check(black_box(shared.borrow().0))));
     }
     race.run_rounds()
 }
@@ -94,7 +120,7 @@ impl Tables {
     pub fn new(title: &str, lanes: &[&str]) -> Self {
         Self {
             whole: Table::new(title, lanes),
-            less: Table::new(&format!("{title}, less the check"), lanes),
+            less: Table::new(&format!("{title}, {LESS_CHECK}"), lanes),
         }
     }
 
@@ -109,5 +135,39 @@ impl Tables {
     /// Both.
     pub fn done(self) -> Vec<Table> {
         vec![self.whole, self.less]
+    }
+}
+
+#[cfg(test)]
+mod tests {
+    use super::*;
+    use std::collections::BTreeSet;
+    use std::rc::Rc;
+
+    #[test]
+    fn all_ways_share_a_volume_and_a_buffer_at_each_place() {
+        let met = Rc::new(RefCell::new(BTreeSet::new()));
+        let mut ways = [met.clone(), met.clone()].map(|met| Way {
+            name: "way",
+            request: Box::new(move |image, buffer| {
+                let places = (image.as_ptr().addr(), buffer.as_ptr().addr());
+                met.borrow_mut().insert(places);
+                0
+            }),
+            check: None,
+        });
+        times(1, &mut ways, |_| vec![0; BLOCK_SIZE]);
+        let met = met.take();
+        assert_eq!(met.len(), PLACES.len());
+        let within = met
+            .iter()
+            .map(|(image, buffer)| (image % PAGE, buffer % PAGE));
+        assert_eq!(within.collect::<BTreeSet<_>>(), PLACES.into());
+    }
+
+    #[test]
+    fn volume_and_buffer_begin_at_multiples_of_16_in_every_combination() {
+        let aligned = PLACES.map(|(volume, buffer)| (volume % 16 == 0, buffer % 16 == 0));
+        assert_eq!(BTreeSet::from(aligned).len(), 4);
     }
 }

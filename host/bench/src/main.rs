@@ -8,9 +8,9 @@
 //!
 //! The first makes a run and prints its tables in Markdown, or with --rows a line for each time: section, row, lane and
 //! nanoseconds with tabs between. Each time is the best of R rounds (2000 unless given, fewer where one lasts long), in which
-//! the proved request, the reference and what else is timed beside them take turns; of free bytes, few bytes, stores, mends
-//! and the timing file less the check it is the median. The others print the claims and the tables of all runs whose lines
-//! are in the files idle-* and loaded-* of a folder, and draw the pictures. Nothing passes or fails by time.
+//! the proved request, the reference and what else is timed beside them take turns; less the check it is the median. The
+//! others print the claims and the tables of all runs whose lines are in the files idle-* and loaded-* of a folder, and draw
+//! the pictures. Nothing passes or fails by time.
 
 #![deny(unsafe_code)]
 
@@ -47,8 +47,8 @@ const USAGE: &str = "usage: bench [--rounds R] [--rows]
 /// All that is measured, in the order of the report.
 const MEASURES: &[fn(usize) -> Vec<Table>] = &[
     on_tfs::requests,
-    on_tfs::short_transfers,
-    on_tfs::transfers,
+    on_transfers::by_volume,
+    on_transfers::whole_files,
     on_transfers::few_bytes,
     #[cfg(before)]
     on_transfers::beside_before,

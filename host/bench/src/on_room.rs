@@ -4,6 +4,7 @@ use reference::tfs::{BLOCK_SIZE, LARGEST_FILE, MOST_BLOCKS};
 
 use crate::less_check::{times, Way};
 use crate::linked;
+use crate::runs::LESS_CHECK;
 use crate::table::Table;
 use crate::volumes::{with_files, with_files_anywhere};
 
@@ -13,7 +14,7 @@ macro_rules! requests {
         use $tfs as tfs;
         Way {
             name: $name,
-            request: Box::new(|image| tfs::free_bytes(image).expect("free bytes")),
+            request: Box::new(|image, _| tfs::free_bytes(image).expect("free bytes")),
             check: Some(|image| tfs::check(image).expect("check")),
         }
     }};
@@ -31,7 +32,7 @@ fn ways() -> Vec<Way> {
         requests!("reference", reference::tfs),
         Way {
             name: "C",
-            request: Box::new(|image| free_bytes_in_c(image)),
+            request: Box::new(|image, _| free_bytes_in_c(image)),
             check: None,
         },
     ];
@@ -62,8 +63,8 @@ pub fn free_bytes(rounds: usize) -> Vec<Table> {
     ];
     let mut ways = ways();
     let lanes: Vec<&str> = ways.iter().map(|way| way.name).collect();
-    let title = "TFS: free bytes less the check, on volumes of 2 MiB";
-    let mut table = Table::new(title, &lanes);
+    let title = format!("TFS: free bytes {LESS_CHECK}, on volumes of 2 MiB");
+    let mut table = Table::new(&title, &lanes);
     for (title, sizes, make) in rows {
         let times = times(rounds, &mut ways, |seed| make(sizes, seed));
         let times: Vec<f64> = times.iter().map(|times| times.less_check).collect();

@@ -1,7 +1,5 @@
 //! Times of the k-th stores and of mends.
 
-use std::hint::black_box;
-
 use reference::tfs::{BLOCK_SIZE, LARGEST_FILE, MOST_BLOCKS};
 
 use crate::less_check::{times, Ask, Tables, Way};
@@ -65,26 +63,25 @@ fn row(tables: &mut Tables, rounds: usize, title: &str, sizes: &[u32], request: 
 
 /// The k-th store of a create of the largest size.
 fn create<const K: usize>(program: Program) -> Box<Ask> {
-    let mut block = [0; BLOCK_SIZE];
-    Box::new(move |image| (program.create)(image, K, black_box(&mut block)))
+    Box::new(move |image, buffer| (program.create)(image, K, &mut buffer[..BLOCK_SIZE]))
 }
 
 /// The k-th store of a remove.
 fn remove<const K: usize>(program: Program) -> Box<Ask> {
-    let mut block = [0; BLOCK_SIZE];
-    Box::new(move |image| (program.remove)(image, K, black_box(&mut block)))
+    Box::new(move |image, buffer| (program.remove)(image, K, &mut buffer[..BLOCK_SIZE]))
 }
 
 /// The k-th store of a write of a whole file.
 fn write<const K: usize>(program: Program) -> Box<Ask> {
-    let bytes = vec![0x5A; LARGEST_FILE as usize];
-    let mut block = [0; BLOCK_SIZE];
-    Box::new(move |image| (program.write)(image, black_box(&bytes), K, black_box(&mut block)))
+    Box::new(move |image, buffer| {
+        let (bytes, block) = buffer.split_at_mut(LARGEST_FILE as usize);
+        (program.write)(image, bytes, K, block)
+    })
 }
 
 /// A mend after bits of the map were set.
 fn mend(program: Program, spoil: fn(&mut [u8])) -> Box<Ask> {
-    Box::new(move |image| {
+    Box::new(move |image, _| {
         spoil(&mut image[BLOCK_SIZE..2 * BLOCK_SIZE]);
         (program.mend)(image);
         u32::from(image[BLOCK_SIZE])
@@ -95,7 +92,7 @@ fn mend(program: Program, spoil: fn(&mut [u8])) -> Box<Ask> {
 pub fn stores(rounds: usize) -> Vec<Table> {
     let rows: [(&str, Request); 10] = [
         ("the check alone", |program| {
-            Box::new(move |image| {
+            Box::new(move |image, _| {
                 (program.check)(image);
                 0
             })

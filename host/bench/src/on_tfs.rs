@@ -2,11 +2,11 @@
 
 use std::hint::black_box;
 
-use reference::tfs::{self as reference_tfs, LARGEST_FILE, MOST_BLOCKS};
+use reference::tfs::{self as reference_tfs, LARGEST_FILE, MOST_BLOCKS, SLOTS};
 
 use crate::race::Race;
 use crate::table::{digits, Table, BOTH};
-use crate::volumes::{empty, plain, with_data, with_files, with_leftovers, Made};
+use crate::volumes::{empty, plain, with_files, with_files_anywhere, LEFTOVERS};
 
 /// Times an operation of both programs, each on its own copy of an image.
 fn both<T, U>(
@@ -63,9 +63,11 @@ pub fn requests(rounds: usize) -> Vec<Table> {
             );
         }
     }
-    let left = with_leftovers();
-    let times = check(rounds, &left.image);
-    table.row(&format!("check, {}", left.title), &times);
+    let scattered = with_files_anywhere(MOST_BLOCKS, &[LARGEST_FILE; SLOTS], 1);
+    let times = check(rounds, &scattered);
+    table.row("check, 25 largest files, scattered", &times);
+    let times = check(rounds, &(LEFTOVERS.make)(1));
+    table.row(&format!("check, {}", LEFTOVERS.title), &times);
     vec![table]
 }
 
@@ -93,75 +95,6 @@ fn list(rounds: usize, image: &[u8]) -> Vec<f64> {
         |image| proved::c::tfs::list(image, 7),
         |image| reference_tfs::list(image, 7).is_ok(),
     )
-}
-
-/// Read and write of a few bytes of a file.
-pub fn short_transfers(rounds: usize) -> Vec<Table> {
-    const SIZE: usize = 64;
-    let mut table = Table::new("TFS: read and write of 64 bytes", &BOTH);
-    for made in with_data() {
-        let (read, write) = (read(rounds, &made, SIZE), write(rounds, &made, SIZE));
-        table.row(&format!("read, {}", made.title), &read[..2]);
-        table.row(&format!("write, {}", made.title), &write[..2]);
-    }
-    let left = with_leftovers();
-    let times = read(rounds, &left, SIZE);
-    table.row(&format!("read, {}", left.title), &times[..2]);
-    vec![table]
-}
-
-/// Read and write of a whole file of the largest size, beside a plain copy.
-pub fn transfers(rounds: usize) -> Vec<Table> {
-    const SIZE: usize = LARGEST_FILE as usize;
-    const LANES: [&str; 3] = ["proved", "reference", "copy"];
-    let title = "TFS: read and write of 65,024 bytes";
-    let mut whole = Table::new(title, &LANES);
-    let mut less = Table::new(&format!("{title}, less the check"), &LANES);
-    for made in with_data() {
-        for (request, times) in [
-            ("read", read(rounds, &made, SIZE)),
-            ("write", write(rounds, &made, SIZE)),
-        ] {
-            let [ours, theirs, ours_check, theirs_check, copy] = times[..] else {
-                unreachable!("five lanes");
-            };
-            let title = format!("{request}, {}", made.title);
-            whole.row(&title, &[ours, theirs, copy]);
-            less.row(&title, &[ours - ours_check, theirs - theirs_check, copy]);
-        }
-    }
-    vec![whole, less]
-}
-
-fn read(rounds: usize, made: &Made, size: usize) -> Vec<f64> {
-    let (image, name) = (&made.image[..], &made.name[..]);
-    let mut buffers = vec![vec![0u8; size]; 3];
-    let [ours, theirs, copy] = &mut buffers[..] else {
-        unreachable!("three buffers");
-    };
-    Race::new(rounds)
-        .lane(|| proved::tfs::read(black_box(image), name, 0, ours).expect("read"))
-        .lane(|| reference_tfs::read(black_box(image), name, 0, theirs).expect("read"))
-        .lane(|| proved::tfs::check(black_box(image)))
-        .lane(|| reference_tfs::check(black_box(image)))
-        .lane(|| black_box(&mut copy[..]).copy_from_slice(black_box(&image[2048..2048 + size])))
-        .run()
-}
-
-fn write(rounds: usize, made: &Made, size: usize) -> Vec<f64> {
-    let (image, name) = (&made.image[..], &made.name[..]);
-    let buffer = vec![0x5A; size];
-    let mut images = vec![made.image.clone(); 3];
-    let [ours, theirs, copy] = &mut images[..] else {
-        unreachable!("three images");
-    };
-    Race::new(rounds)
-        .lane(|| proved::tfs::write(black_box(ours), name, 0, &buffer).expect("write"))
-        .lane(|| reference_tfs::write(black_box(theirs), name, 0, &buffer).expect("write"))
-        .lane(|| proved::tfs::check(black_box(image)))
-        .lane(|| reference_tfs::check(black_box(image)))
-        .lane(|| black_box(&mut copy[2048..2048 + size]).copy_from_slice(black_box(&buffer)))
-        .run()
 }
 
 /// How the check grows with the number of blocks and of files.

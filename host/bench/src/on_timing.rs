@@ -95,18 +95,18 @@ fn volume(stored: bool) -> Vec<u8> {
 type Request = fn(Program) -> Box<Ask>;
 
 fn check(program: Program) -> Box<Ask> {
-    Box::new(move |image| {
+    Box::new(move |image, _| {
         (program.check)(image);
         0
     })
 }
 
 fn boot(program: Program) -> Box<Ask> {
-    Box::new(move |image| (program.boot)(image, black_box(&TRAINED)).into())
+    Box::new(move |image, _| (program.boot)(image, black_box(&TRAINED)).into())
 }
 
 fn store(program: Program) -> Box<Ask> {
-    Box::new(move |image| {
+    Box::new(move |image, _| {
         (program.store)(image, black_box(&TRAINED));
         image[BLOCK_SIZE + 12].into()
     })
@@ -116,14 +116,14 @@ fn store(program: Program) -> Box<Ask> {
 fn create(program: Program) -> Box<Ask> {
     let absent = small()[BLOCK_SIZE..3 * BLOCK_SIZE].to_vec();
     let mut store = store(program);
-    Box::new(move |image| {
+    Box::new(move |image, buffer| {
         image[BLOCK_SIZE..3 * BLOCK_SIZE].copy_from_slice(black_box(&absent));
-        store(image)
+        store(image, buffer)
     })
 }
 
 fn open_lid(program: Program) -> Box<Ask> {
-    Box::new(move |image| {
+    Box::new(move |image, _| {
         (program.open_lid)(image);
         image[BLOCK_SIZE + 12].into()
     })
@@ -131,9 +131,9 @@ fn open_lid(program: Program) -> Box<Ask> {
 
 /// The k-th block of a store.
 fn store_block(program: Program, k: usize) -> Box<Ask> {
-    let mut block = [0; BLOCK_SIZE];
-    Box::new(move |image| {
-        let number = (program.store_block)(image, black_box(&TRAINED), k, &mut block);
+    Box::new(move |image, buffer| {
+        let block = &mut buffer[..BLOCK_SIZE];
+        let number = (program.store_block)(image, black_box(&TRAINED), k, block);
         number + u32::from(block[7])
     })
 }
@@ -147,9 +147,9 @@ fn fifth_block(program: Program) -> Box<Ask> {
 }
 
 fn open_lid_block(program: Program) -> Box<Ask> {
-    let mut block = [0; BLOCK_SIZE];
-    Box::new(move |image| {
-        let number = (program.open_lid_block)(image, 1, &mut block);
+    Box::new(move |image, buffer| {
+        let block = &mut buffer[..BLOCK_SIZE];
+        let number = (program.open_lid_block)(image, 1, block);
         number + u32::from(block[7])
     })
 }

@@ -5,6 +5,9 @@ use std::path::Path;
 
 use crate::fact::Fact;
 
+/// In the title of a section whose times are differences.
+pub const LESS_CHECK: &str = "less the check";
+
 /// The numbers of all runs, one for each in order.
 #[derive(Clone, Debug, Default, PartialEq)]
 pub struct Numbers {
@@ -21,6 +24,8 @@ pub struct Row {
     pub title: String,
     /// For each lane of the section.
     pub times: Vec<Numbers>,
+    /// Whether the times are differences, which may be next to nothing.
+    pub differences: bool,
 }
 
 /// A table of all runs.
@@ -110,6 +115,7 @@ impl Runs {
             || Row {
                 title: fact.row.clone(),
                 times: Vec::new(),
+                differences: fact.section.contains(LESS_CHECK),
             },
         );
         row.times.resize_with(section.lanes.len(), Numbers::default);
@@ -161,22 +167,28 @@ fn read_all(folder: &Path, start: &str) -> Result<Vec<Vec<Fact>>, String> {
     names.iter().map(run).collect()
 }
 
+/// What the clock cannot tell from nothing, in nanoseconds.
+const NOISE: f64 = 1.0;
+
 impl Row {
     /// How many times as long the first lane takes as another, in each run; nothing if one of the times is below the
-    /// clock's noise.
+    /// clock's noise. But a difference of the first lane may be next to nothing, within the noise: a small part of what the
+    /// other takes.
     pub fn ratios(&self, lane: usize) -> Option<Numbers> {
         let (ours, other) = (&self.times[0], &self.times[lane]);
+        let ratio = |(ours, other): (&f64, &f64)| {
+            let least = if self.differences { -NOISE } else { NOISE };
+            let told = *other >= NOISE && *ours >= least;
+            told.then(|| ours.max(0.0) / other)
+        };
+        let ratios = |ours: &[f64], other: &[f64]| -> Option<Vec<f64>> {
+            ours.iter().zip(other).map(ratio).collect()
+        };
         Some(Numbers {
             idle: ratios(&ours.idle, &other.idle)?,
             loaded: ratios(&ours.loaded, &other.loaded)?,
         })
     }
-}
-
-fn ratios(ours: &[f64], other: &[f64]) -> Option<Vec<f64>> {
-    let both = ours.iter().zip(other);
-    both.map(|(ours, other)| (*ours >= 1.0 && *other >= 1.0).then(|| ours / other))
-        .collect()
 }
 
 /// The middle one of some numbers, or the mean of the middle two.
@@ -237,6 +249,20 @@ mod tests {
         let runs = Runs::of(&[run(RUN), run(&RUN.replace("10", "0.5"))], &[]).expect("runs");
         assert_eq!(runs.sections[0].rows[0].ratios(1), None);
         assert!(runs.sections[0].rows[1].ratios(1).is_some());
+    }
+
+    #[test]
+    fn a_difference_below_the_clocks_noise_has_a_ratio_to_one_above_it() {
+        let text = RUN.replace("s\t", "s, less the check\t");
+        for (ours, expected) in [("0.5", 0.025), ("0", 0.0), ("-0.5", 0.0)] {
+            let runs = Runs::of(&[run(&text.replace("10", ours))], &[]).expect("runs");
+            let ratios = runs.sections[0].rows[0].ratios(1).expect("ratios");
+            assert_eq!(ratios.idle, [expected]);
+        }
+        for unclear in [text.replace("20", "0.5"), text.replace("10", "-3")] {
+            let runs = Runs::of(&[run(&unclear)], &[]).expect("runs");
+            assert_eq!(runs.sections[0].rows[0].ratios(1), None);
+        }
     }
 
     #[test]

@@ -1,22 +1,67 @@
 //! The volumes that are timed.
 
-use generate::tfs::{leftovers, volume, volume_with_files, Shape};
+use generate::tfs::{leftovers, volume_with_files, Volume};
 use generate::Random;
 use reference::tfs::{self, BLOCK_SIZE, LARGEST_FILE, MOST_BLOCKS, SLOTS};
 
 /// The sizes of seven files; a file of the largest size comes to them.
 const TYPICAL: [u32; 7] = [1_000, 200, 4_096, 12_000, 512, 30_000, 100];
 
-/// A volume with a file of the largest size in it.
-#[derive(Clone)]
-pub struct Made {
-    /// What it is called in the tables.
+/// Volumes of 2 MiB with a file of the largest size.
+#[derive(Clone, Copy)]
+pub struct Kind {
+    /// What they are called in the tables.
     pub title: &'static str,
-    /// The image.
-    pub image: Vec<u8>,
     /// The name of the file.
-    pub name: Vec<u8>,
+    pub name: &'static [u8],
+    /// Makes one from a seed.
+    pub make: fn(u64) -> Vec<u8>,
 }
+
+/// With no other file.
+pub const ALONE: Kind = Kind {
+    title: "only this file",
+    name: b"F0",
+    make: |_| with_files(MOST_BLOCKS, &[LARGEST_FILE]),
+};
+
+/// With no other file, and its blocks anywhere. Behind the volume there are as many bytes.
+pub const SCATTERED: Kind = Kind {
+    title: "scattered blocks",
+    name: b"F0",
+    make: |seed| {
+        let mut image = with_files_anywhere(MOST_BLOCKS, &[LARGEST_FILE], seed);
+        image.resize(image.len() + LARGEST_FILE as usize, 0);
+        image
+    },
+};
+
+/// With seven others, and with leftovers behind every name and in all of every free slot.
+pub const LEFTOVERS: Kind = Kind {
+    title: "8 files and leftovers",
+    name: b"F7",
+    make: |_| {
+        let mut image = with_typical();
+        fill_leftovers(&mut image, b'x');
+        image
+    },
+};
+
+/// All kinds without leftovers.
+pub const WITH_DATA: [Kind; 4] = [
+    ALONE,
+    Kind {
+        title: "8 files",
+        name: b"F7",
+        make: |_| with_typical(),
+    },
+    Kind {
+        title: "25 largest files",
+        name: b"F24",
+        make: |_| with_files(MOST_BLOCKS, &[LARGEST_FILE; SLOTS]),
+    },
+    SCATTERED,
+];
 
 /// An empty volume of so many blocks.
 pub fn empty(blocks: usize) -> Vec<u8> {
@@ -47,42 +92,21 @@ pub fn small() -> Vec<u8> {
     with_files(128, &TYPICAL)
 }
 
+/// A volume of 2 MiB with seven files and one of the largest size.
+fn with_typical() -> Vec<u8> {
+    with_files(MOST_BLOCKS, &[&TYPICAL[..], &[LARGEST_FILE]].concat())
+}
+
 /// The volumes of 2 MiB for requests that move no content.
 pub fn plain() -> [(&'static str, Vec<u8>); 3] {
-    let typical = [&TYPICAL[..], &[LARGEST_FILE]].concat();
     [
         ("empty", empty(MOST_BLOCKS)),
-        ("8 files", with_files(MOST_BLOCKS, &typical)),
+        ("8 files", with_typical()),
         (
             "25 largest files",
-            with_files(MOST_BLOCKS, &[LARGEST_FILE; 25]),
+            with_files(MOST_BLOCKS, &[LARGEST_FILE; SLOTS]),
         ),
     ]
-}
-
-/// The volumes of 2 MiB with a file of the largest size.
-pub fn with_data() -> Vec<Made> {
-    vec![
-        with_largest("only this file", &[]),
-        with_largest("8 files", &TYPICAL),
-        with_largest("25 largest files", &[LARGEST_FILE; 24]),
-        scattered(),
-    ]
-}
-
-/// The volume of 8 files with leftovers behind every name and in all of every free slot.
-pub fn with_leftovers() -> Made {
-    let mut made = with_largest("8 files and leftovers", &TYPICAL);
-    fill_leftovers(&mut made.image, b'x');
-    made
-}
-
-/// A volume with files of these sizes and then one of the largest.
-fn with_largest(title: &'static str, sizes: &[u32]) -> Made {
-    let mut image = with_files(MOST_BLOCKS, sizes);
-    let name = b"DATA".to_vec();
-    tfs::create(&mut image, &name, LARGEST_FILE).expect("create");
-    Made { title, image, name }
 }
 
 /// Fills all leftovers with a byte.
@@ -93,21 +117,37 @@ fn fill_leftovers(image: &mut [u8], byte: u8) {
     }
 }
 
-/// A volume without leftovers whose largest file has its blocks anywhere.
-fn scattered() -> Made {
-    let mut random = Random::new(1);
-    loop {
-        let mut made = volume(&mut random, Shape::Largest, MOST_BLOCKS);
-        let file = made.files.iter().find(|file| file.size == LARGEST_FILE);
-        let file = file.expect("a file of the largest size");
-        let neighbours = file.blocks.windows(2).filter(|two| two[0] + 1 == two[1]);
-        if neighbours.count() < 8 {
-            fill_leftovers(&mut made.image, 0);
-            return Made {
-                title: "scattered blocks",
-                name: file.name.clone(),
-                image: made.image,
-            };
-        }
+/// Where in an image a copy begins that stands for a transfer of a file: at the content if its blocks stand one after
+/// another, or else behind the volume.
+pub fn copied_from(image: &[u8], name: &[u8]) -> usize {
+    let mut volume = Volume {
+        image: Vec::new(),
+        blocks: MOST_BLOCKS,
+        files: Vec::new(),
+        gone: Vec::new(),
+    };
+    volume.look(image);
+    let file = volume.files.iter().find(|file| file.name == name);
+    let blocks = &file.expect("the file").blocks;
+    let solid = blocks.windows(2).all(|two| two[0] + 1 == two[1]);
+    match solid {
+        true => blocks[0] as usize * BLOCK_SIZE,
+        false => MOST_BLOCKS * BLOCK_SIZE,
+    }
+}
+
+#[cfg(test)]
+mod tests {
+    use super::*;
+
+    #[test]
+    fn a_copy_begins_at_the_content_or_behind_the_volume() {
+        let mut image = with_files(64, &[512, 1_000]);
+        assert_eq!(copied_from(&image, b"F0"), 4 * BLOCK_SIZE);
+        assert_eq!(copied_from(&image, b"F1"), 6 * BLOCK_SIZE);
+        tfs::remove(&mut image, b"F0").expect("remove");
+        tfs::create(&mut image, b"SPLIT", 513).expect("create");
+        assert_eq!(copied_from(&image, b"F1"), 6 * BLOCK_SIZE);
+        assert_eq!(copied_from(&image, b"SPLIT"), MOST_BLOCKS * BLOCK_SIZE);
     }
 }

@@ -52,27 +52,9 @@ formed c =
 
 returns-5 : tie.Need-returns-5
 returns-5 c =
-    let past = c .before .before in
-    (rw (headed (past .before .before .before .before), ← slot (past .before), le-ltb _ _ (past .if4 .left), ← c .before .first-bad-inode .ensures, lt-ltb _ _ (c .if5 .taken)), (omega arith, omega arith, λ h. omega arith))
-
-check-blocks-requires : tie.Need-check-blocks-requires
-check-blocks-requires c κs =
-    let past = c .before .before in
-    let img = now (past .before .before .before .before .before .before .before .before .before .before .args .image) in (
-      record {
-        long = formed past .long;
-        slots = formed past .slots;
-        inodes = omega (arith, c .before .first-bad-inode .ensures, least-le (badInode 512 (view 512 img)) 25);
-      },
-      search needs,
-    )
-
-returns-6 : tie.Need-returns-6
-returns-6 c =
-    let past = c .before .before .before in (
-      rw (headed (past .before .before .before .before), ← slot (past .before), le-ltb _ _ (past .if4 .left), ← c .before .before .first-bad-inode .ensures, le-ltb _ _ (c .before .if5 .left), ← past .before .before .before .blocks2 .ensures .0)
-          (c .check-blocks .ensures .0),
-      c .check-blocks .ensures .1,
+    let past = c .before in (
+      rw (headed (past .before .before .before .before), ← slot (past .before), le-ltb _ _ (past .if4 .left), ← past .before .before .before .blocks2 .ensures .0) (c .check-files .ensures .0),
+      c .check-files .ensures .1,
     )
 
 pub check-spec : {M : Type 1} → statement M
@@ -90,7 +72,4 @@ check-spec =
     (λ c. search needs)
     returns-4
     (λ c κs. (formed c, c .before .before .before .blocks2 .ensures .0))
-    (λ c. search needs)
-    returns-5
-    check-blocks-requires
-    returns-6)
+    returns-5)

@@ -37,7 +37,7 @@ module _ (c : tie.After-mark-files) where
   n-is = c .before .before .before .blocks2 .ensures .0
 
   marks : Marks owned (claims 512 (view 512 img))
-  marks = subst (λ (x : List ℕ). Marks x (claims 512 (view 512 img))) (sym (c .mark-files .ensures)) (marks-at img sized 0)
+  marks = subst (λ (x : List ℕ). Marks x (claims 512 (view 512 img))) (sym (c .mark-files .ensures)) (marks-at img sized)
 
 -- ---- what is missing
 missing : (c : tie.After-first-missing) → c .first-missing .result ≡ least (isMissing (view 512 (img (c .before .before .before .before .before)) .map) (owned (c .before .before .before .before .before))) (blocks 512 (img (c .before .before .before .before .before)))

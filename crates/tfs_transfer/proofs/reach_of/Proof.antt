@@ -5,7 +5,7 @@ use denote.Ref.{now}
 use borrow.Author.Needs.{needs}
 use Rattle.tfs_spec.specs.Layout.{view, size}
 use Rattle.tfs_steps.specs.Ready.{long, file-ready, sized}
-use Rattle.tfs_transfer.specs.Transfer.{beyond, moves, allowed, listed}
+use Rattle.tfs_transfer.specs.Transfer.{beyond, moves, allowed}
 use Rattle.tfs_transfer.proofs.reach_of.Statement.{statement}
 use Rattle.tfs_transfer.proofs.reach_of.Tie as tie
 
@@ -31,21 +31,13 @@ returns c =
     let start = start (c .before .before) in
     (beyond _ _ (c .before .file-size .result) (start .args .offset) (start .args .len) (size-is (c .before)) (c .if1 .taken), omega arith)
 
-file-blocks-requires : tie.Need-file-blocks-requires
-file-blocks-requires c κs =
-    let read = c .before .before .before .before in
-    let start = start read in
-    file-ready _ (start .pre .0) _ (start .pre .1) (read .inode-at .result) (read .inode-at .ensures)
-
 returns-2 : tie.Need-returns-2
 returns-2 c =
-    let counted = c .before .before in
-    let sized = counted .before .before in
+    let sized = c .before .before in
     let read = sized .before in
     let start = start read in
-    let made = c .file-blocks in
-    let m = moves _ _ (sized .file-size .result) (start .args .offset) (start .args .len) (size-is sized) (counted .count-of .result) (counted .before .if1 .left) (counted .count-of .ensures) in
-    (sym (allowed m), (m, listed _ _ (read .inode-at .result) (made .result) (made .last .1 .1 .0) _ (read .inode-at .ensures) (made .ensures .0) (made .ensures .1)))
+    let m = moves _ _ (sized .file-size .result) (start .args .offset) (start .args .len) (size-is sized) (c .count-of .result) (c .before .if1 .left) (c .count-of .ensures) in
+    (sym (allowed m), (m, read .inode-at .ensures))
 
 pub reach-of-spec : {M : Type 1} → statement M
 reach-of-spec =
@@ -56,5 +48,4 @@ reach-of-spec =
     file-size-requires
     returns
     (λ c κs. search needs)
-    file-blocks-requires
     returns-2)

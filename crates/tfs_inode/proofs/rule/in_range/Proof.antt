@@ -1,13 +1,11 @@
 -- `in_range` meets its contract.
-use borrow.Author.Tests.{le-leb, lt-leb}
+use borrow.Author.Needs.{needs}
+use Rattle.tfs_inode.specs.Wrong.{range-wrapped}
 use Rattle.tfs_inode.proofs.rule.in_range.Statement.{statement}
 use Rattle.tfs_inode.proofs.rule.in_range.Tie as tie
 
 returns : tie.Need-returns
-returns c = rw (le-leb _ _ (c .if1 .taken))
-
-returns-2 : tie.Need-returns-2
-returns-2 c = rw (lt-leb _ _ (c .if1 .left))
+returns c = range-wrapped _ _ _ (c .before .pre) (search needs) (search needs) (c .wrapping-sub-usize .ensures)
 
 pub in-range-spec : {M : Type 1} → statement M
-in-range-spec = tie.close (tie.spec returns returns-2)
+in-range-spec = tie.close (tie.spec (λ c κs. search needs) (λ c. search needs) returns)

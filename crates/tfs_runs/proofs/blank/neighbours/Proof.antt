@@ -2,10 +2,11 @@
 use mathlib.Core.Path.{sym, ap, _∙_}
 use Prim.Native.Nat.{ℕ, _+_, _-_, _≤_, _<_}
 use native.Mathlib.Omega.{arith}
-use lib.ListN.{length}
+use lib.ListN.{length, getD}
 use denote.Ref.{now}
 use borrow.Author.Needs.{needs}
-use Rattle.tfs_runs.specs.Blank.{Neighbours, alone, one-more}
+use Rattle.tfs_runs.specs.Place.{alone, one-more}
+use Rattle.tfs_runs.specs.Blank.{Neighbours}
 use Rattle.tfs_runs.proofs.blank.neighbours.Statement.{statement}
 use Rattle.tfs_runs.proofs.blank.neighbours.Tie as tie
 
@@ -20,7 +21,7 @@ loop-again c =
     let at-loop = c .before .before .before .before .loop in
     let next = sym (c .before .wide2 .ensures .0) ∙ c .if1 .left ∙ ap (λ (x : ℕ). x + at-loop .n) (c .before .before .before .before .before .wide .ensures .0) in
     let args = c .before .before .before .before .before .before .before .before .args in
-    (omega arith, search needs, one-more (now (args .blocks)) (args .i) (at-loop .n) (at-loop .inv .2) next)
+    (omega arith, search needs, one-more (λ k. getD (now (args .blocks)) k 0) (args .i) (at-loop .n) (at-loop .inv .2) next)
 
 pub neighbours-spec : {M : Type 1} → statement M
 neighbours-spec =
@@ -31,7 +32,7 @@ neighbours-spec =
     (λ c. search needs)
     (λ c. search needs)
     (λ c κs. search needs)
-    (λ c. (search needs, search needs, alone (now (c .before .before .before .args .blocks)) (c .before .before .before .args .i)))
+    (λ c. (search needs, search needs, alone (λ k. getD (now (c .before .before .before .args .blocks)) k 0) (c .before .before .before .args .i)))
     (λ c. search needs)
     (λ c. search needs)
     (λ c. search needs)

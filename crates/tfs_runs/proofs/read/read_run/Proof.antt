@@ -10,28 +10,22 @@ use borrow.Author.Needs.{needs}
 use Rattle.tfs_runs.proofs.read.read_run.Statement.{statement}
 use Rattle.tfs_runs.proofs.read.read_run.Tie as tie
 
-inside : (c : tie.After-room) → c .before .place .result + c .room .result ≤ length (now (c .before .before .before .before .before .args .image))
+inside : (c : tie.After-run-of) → c .run-of .result .at + c .run-of .result .len ≤ length (now (c .before .before .before .before .args .image))
 inside c =
-    let start = c .before .before .before .before .before in
-    rw (c .before .place .ensures, c .room .ensures)
-    (run-inside (now (start .args .blocks)) (length (now (start .args .image))) (start .args .p) (start .args .left) (start .pre .0) (omega arith))
-
-add-e : tie.Need-add-e
-add-e c = omega (arith, inside c)
-
-part-copy-end-2 : tie.Need-part-copy-end-2
-part-copy-end-2 c = omega (arith, inside (c .before))
+    let start = c .before .before .before .before in
+    let run = c .run-of in
+    run-inside (now (start .args .ino)) (start .args .p + start .args .left) (length (now (start .args .image))) (start .args .p) (run .result .at) (run .result .len) (start .pre .2) (run .ensures .0) (run .ensures .1) (omega arith) (run .ensures .4)
 
 returns : tie.Need-returns
 returns c =
-    let start = c .before .before .before .before .before .before .before .before .before .before in
-    let room = c .before .before .before .before .before .room in
-    let place = c .before .before .before .before .before .before .place in
-    let copied = c .before .before .copy in
-    let args = start .args in (
-      room .ensures,
-      read-run (now (args .image)) (now (args .blocks)) (now (args .buf)) (copied .last .0) (args .p) (place .result) (room .result) _
-          (place .ensures) (omega arith) (inside (c .before .before .before .before .before)) (add-sub-cancel-left (place .result) (room .result)) (copied .ensures),
+    let found = c .before .before .before .before .before in
+    let args = found .before .before .before .before .args in
+    let run = found .run-of in
+    let copied = c .before .before .copy-run in (
+      run .ensures .1,
+      run .ensures .2,
+      read-run (now (args .image)) (now (args .ino)) (now (args .buf)) (copied .last .0) (args .p) (run .result .at) (run .result .len) _
+          (run .ensures .0) (run .ensures .4) (inside found) (add-sub-cancel-left (run .result .at) (run .result .len)) (copied .ensures),
     )
 
 pub read-run-spec : {M : Type 1} → statement M
@@ -39,14 +33,13 @@ read-run-spec =
     tie.close
     (tie.spec
     (λ c κs. search needs)
-    (λ c κs. search needs)
-    add-e
+    (λ c. omega (arith, inside c))
     (λ c. search needs)
     (λ c. search needs)
     (λ c. search needs)
     (λ c. search needs)
     (λ c. search needs)
-    part-copy-end-2
+    (λ c. omega (arith, inside (c .before)))
     (λ c κs. search needs)
     (λ c. search needs)
     returns)

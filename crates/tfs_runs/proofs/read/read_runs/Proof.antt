@@ -3,7 +3,7 @@ use mathlib.Core.List.{_++_}
 use mathlib.Core.Path.{_≡_, ap, _∙_}
 use Prim.Native.Nat.{_≤_, _-_}
 use native.Mathlib.Omega.{arith}
-use lib.ListN.{length, getD, drop, length-append, length-drop}
+use lib.ListN.{length, getD, drop, length-append, length-take, length-drop}
 use denote.Ref.{now}
 use Rattle.lists.specs.Lists.{table}
 use Rattle.list_laws.specs.Table.{length-table}
@@ -14,10 +14,15 @@ use Rattle.tfs_runs.proofs.read.read_runs.Statement.{statement}
 use Rattle.tfs_runs.proofs.read.read_runs.Tie as tie
 
 abbrev Inv-loop : tie.InvT-loop
-Inv-loop image blocks offset buf₀ count done₀ buf done = (done ≤ count) × (buf ≡ table (λ p. getD image (at blocks p) 0) offset done ++ drop done buf₀) × (length buf ≡ length buf₀)
+Inv-loop image ino offset buf₀ count done₀ buf done = (done ≤ count) × (buf ≡ table (λ p. getD image (at ino p) 0) offset done ++ drop done buf₀) × (length buf ≡ length buf₀)
 
 abbrev μ-loop : tie.MeasureT-loop
-μ-loop image blocks offset buf₀ count done₀ buf done = count - done
+μ-loop image ino offset buf₀ count done₀ buf done = count - done
+
+read-run-requires : tie.Need-read-run-requires Inv-loop μ-loop
+read-run-requires c κs =
+    let start = c .before .before .before .before .before .before in
+    (search needs, λ k l. start .pre .1 k (omega arith), λ k l. start .pre .2 k (omega arith), search needs, simp (length-take, length-drop) (omega arith), omega arith)
 
 loop-again : tie.Need-loop-again Inv-loop μ-loop
 loop-again c =
@@ -27,8 +32,8 @@ loop-again c =
     let args = start .args in
     let rest = length (at-loop .buf) - at-loop .done in
     let more =
-    read-more (λ p. getD (now (args .image)) (at (now (args .blocks)) p) 0) (args .offset) (at-loop .done) (call .result) rest (now (args .buf)) (at-loop .buf) (call .last .1 .1 .1 .0)
-    (omega arith) (omega arith) (at-loop .inv .1) (call .ensures .1) in
+    read-more (λ p. getD (now (args .image)) (at (now (args .ino)) p) 0) (args .offset) (at-loop .done) (call .result) rest (now (args .buf)) (at-loop .buf) (call .last .1 .1 .1 .0)
+    (omega arith) (omega arith) (at-loop .inv .1) (call .ensures .2) in
     (search needs, more, ap length more ∙ simp (length-append, length-table, length-drop) (omega arith))
 
 returns : tie.Need-returns Inv-loop μ-loop
@@ -49,7 +54,7 @@ read-runs-spec =
     (λ c. search needs)
     (λ c. search needs)
     (λ c. search needs)
-    (λ c κs. search needs)
+    read-run-requires
     (λ c. search needs)
     (λ c. search needs)
     loop-again

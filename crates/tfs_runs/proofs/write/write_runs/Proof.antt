@@ -2,7 +2,7 @@
 use mathlib.Core.Path.{_≡_, _∙_}
 use Prim.Native.Nat.{_≤_, _-_}
 use native.Mathlib.Omega.{arith}
-use lib.ListN.{length, take, length-take, length-drop}
+use lib.ListN.{length, take, drop, length-take, length-drop}
 use denote.Ref.{now}
 use Rattle.lists.specs.Lists.{storeAt}
 use Rattle.tfs_runs.specs.Place.{at}
@@ -12,15 +12,18 @@ use Rattle.tfs_runs.proofs.write.write_runs.Statement.{statement}
 use Rattle.tfs_runs.proofs.write.write_runs.Tie as tie
 
 abbrev Inv-loop : tie.InvT-loop
-Inv-loop image₀ blocks offset buf count done₀ image done = (done ≤ count) × (image ≡ storeAt (at blocks) image₀ offset (take done buf)) × (length image ≡ length image₀)
+Inv-loop image₀ ino offset buf count done₀ image done = (done ≤ count) × (image ≡ storeAt (at ino) image₀ offset (take done buf)) × (length image ≡ length image₀)
 
 abbrev μ-loop : tie.MeasureT-loop
-μ-loop image₀ blocks offset buf count done₀ image done = count - done
+μ-loop image₀ ino offset buf count done₀ image done = count - done
 
 write-run-requires : tie.Need-write-run-requires Inv-loop μ-loop
 write-run-requires c κs =
     let start = c .before .before .before .before .before .before .before in
-    (λ i l. omega (arith, start .pre .0 i l), simp (length-take, length-drop) (omega arith), simp (length-take, length-drop) (omega arith))
+    let args = start .args in
+    let done = c .before .before .before .loop .done in
+    let rest : length (take (args .count - done) (drop done (now (args .buf)))) ≡ args .count - done = simp (length-take, length-drop) (omega arith) in
+    (search needs, λ k l. start .pre .1 k (omega (arith, rest)), λ k l. omega (arith, start .pre .2 k (omega (arith, rest))), omega (arith, rest), omega (arith, rest))
 
 loop-again : tie.Need-loop-again Inv-loop μ-loop
 loop-again c =
@@ -30,8 +33,8 @@ loop-again c =
     let args = start .args in
     let left = args .count - at-loop .done in
     let stored =
-    write-turn (at (now (args .blocks))) (now (args .image)) (now (args .buf)) (at-loop .image) (call .last .0) (args .offset) (at-loop .done) (call .result) left
-    (omega arith) (omega arith) (at-loop .inv .1) (call .ensures .1) in
+    write-turn (at (now (args .ino))) (now (args .image)) (now (args .buf)) (at-loop .image) (call .last .0) (args .offset) (at-loop .done) (call .result) left
+    (omega arith) (omega arith) (at-loop .inv .1) (call .ensures .2) in
     (search needs, stored, call .kept .0 ∙ at-loop .inv .2)
 
 returns : tie.Need-returns Inv-loop μ-loop
