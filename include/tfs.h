@@ -11,9 +11,9 @@
  * then its own work. The check reads blocks 0 to 2 and the inode block of each
  * file, and no content: its time grows with the files and the blocks that they
  * use, and by the map a little with the blocks of the volume. A read or a write
- * moves its count of bytes, a create zeros its blocks, tfs_mend collects the
- * used blocks once more where the check finds the map wrong; tfs_format sets
- * blocks 0 to 2. Of a series of stores each one that is fetched costs a check.
+ * moves its count of bytes, a create zeros its blocks, tfs_mend writes the map;
+ * tfs_format sets blocks 0 to 2. Of a series of stores each one that is fetched
+ * costs a check.
  *
  * What the caller must keep to:
  *  - a pointer is valid for the length beside it: readable where it is const,

@@ -124,12 +124,12 @@ format's has a check in it.
 TEXT
 cat <<'TEXT'
 
-Times less the check are medians over all rounds of the difference between a request and its check in the same round. There, and
-in the whole times beside them, all ways work on one image and with one buffer, which lie at eight places in a page, scattered
-volumes each time another one; both, one or none of the two begin at a multiple of 16. So it is with reads and writes of 64 bytes. The reference's check
-is compiled into each of its requests, so that its difference is not its count alone. A dash stands for a ratio to a difference
-below the clock's noise, or of one that is below nothing by more. Where only the proved one is within it, the ratio stands, as
-0.00 if that is negative.
+Times less the check are medians over all rounds of the difference between a request and its check in the same round, and means
+of these over eight places. There, and in the whole times beside them, all ways work on one image and with one buffer, which lie
+at eight places in a page, as the stack does, scattered volumes each time another one; both, one or none of image and buffer begin
+at a multiple of 16. So it is with reads and writes of 64 bytes. The reference's check is compiled into each of its requests, so that its difference is not its
+count alone. A dash stands for a ratio to a difference below the clock's noise, or of one that is below nothing by more. Where
+only the proved one is within it, the ratio stands, as 0.00 if that is negative.
 
 A volume of 2 MiB is full when its 25 slots are used: 25 files of 65,024 bytes have 3,200 of its 4,093 blocks. There, create and
 remove are timed as remove and create. It is half full with 16 such files; solid where their blocks stand one after another, as
@@ -140,8 +140,9 @@ Before each mend the bits that it clears are set again, which is in its time. So
 before each the map and the directory are set back to those without it, by a copy of 1,024 bytes.
 
 The bytes that a read in a trace should give are compared 16 at a time; the reference compares them by `memcmp`, by more at a
-time where the processor can. A replay checks the volume once; *one by one* is the same requests as separate calls of the proved library, each with its check,
-and with no comparison of the answers.
+time where the processor can. A replay checks the volume once; *one by one* is the same requests as separate calls of the proved
+library, each with its check, and with no comparison of the answers. A record is read into the struct of C by the one, and into an
+enum of Rust by the other.
 
 The reference seeks the target of every link from the root, so that its time grows with the square of the links; images with hard
 links are compared with a plain list instead. Their families (`host/generate/src/romfs/links.rs`) are named by where the links

@@ -1,13 +1,15 @@
 -- Two lists of bytes compared word by word.
-use mathlib.Core.Path.{_≡_, sym, subst}
+use mathlib.Core.Path.{_≡_, sym, ap, _∙_, subst}
 use mathlib.Core.Bool.{Bool, true, false, not, _&&_}
 use Prim.Native.Nat.{ℕ, zero, suc, _+_, _*_, _<_}
 use native.Mathlib.Omega.{arith}
 use mathlib.Core.List.{List}
-use lib.ListN.{getD}
+use lib.ListN.{getD, take}
+use lib.Seq.{getD-take}
 use lib.Dec.{T, eqb, eqb→eq}
-use Rattle.list_laws.specs.Test.{and-of, and-l, and-r, not-not, of-true, iff-eq, eqb-of}
-use Rattle.lists.specs.Lists.{wordOf}
+use Rattle.list_laws.specs.Test.{and-of, and-l, and-r, not-not, of-true, to-true, iff-eq, eqb-of, same-eq}
+use Rattle.list_laws.specs.Least.{Below}
+use Rattle.lists.specs.Lists.{wordOf, sameList}
 
 -- whether four bytes are the same as four others
 abbrev pub fourSame : ℕ → ℕ → ℕ → ℕ → ℕ → ℕ → ℕ → ℕ → Bool
@@ -64,3 +66,14 @@ unfolding wordIs
 word-filled p k v j e h =
     let all = four-parts (getD p (4 * k) 0) (getD p (4 * k + 1) 0) (getD p (4 * k + 2) 0) (getD p (4 * k + 3) 0) v v v v (of-true (wordIs p k v) e) in
     among (λ i. getD p i 0) (λ _. v) (4 * k) j (all .0) (all .1) (all .2) (all .3) h
+
+-- the words of lists with the same first bytes
+pub words-same : (p q : List ℕ) (n m : ℕ) → m ≡ 4 * n → sameList (take m p) (take m q) ≡ true → Below (wordDiffers p q) n
+unfolding wordDiffers wordSame
+words-same p q n m e t k h =
+    let same : take m p ≡ take m q = same-eq (take m p) (take m q) (of-true (sameList (take m p) (take m q)) t) in
+    let byte : (i : ℕ) → i < m → getD p i 0 ≡ getD q i 0 = λ i l. sym (getD-take m p i 0 l) ∙ ap (λ (x : List ℕ). getD x i 0) same ∙ getD-take m q i 0 l in
+    ap not
+    (to-true (wordSame p q k)
+    (four-of (getD p (4 * k) 0) (getD p (4 * k + 1) 0) (getD p (4 * k + 2) 0) (getD p (4 * k + 3) 0) (getD q (4 * k) 0) (getD q (4 * k + 1) 0) (getD q (4 * k + 2) 0) (getD q (4 * k + 3) 0)
+    (byte (4 * k) (omega arith)) (byte (4 * k + 1) (omega arith)) (byte (4 * k + 2) (omega arith)) (byte (4 * k + 3) (omega arith))))

@@ -1,11 +1,13 @@
 -- Two lists compared byte by byte.
-use mathlib.Core.Path.{_≡_, refl, sym, ap, _∙_}
-use mathlib.Core.Bool.{Bool, true, false, _&&_}
+use mathlib.Core.Path.{_≡_, refl, sym, ap, ap₂, _∙_}
+use mathlib.Core.Bool.{Bool, true, false, _&&_, and-assoc}
 use Prim.Native.Nat.{ℕ, _+_, _≤_, _<_}
 use native.Mathlib.Numerals.{add-one}
-use mathlib.Core.List.{List}
-use lib.ListN.{length, getD, drop, drop-of-length-le}
-use lib.Seq.{drop-cons}
+use native.Mathlib.Omega.{arith}
+use mathlib.Core.List.{List, [], _∷_, _++_}
+use lib.Dec.{eqb}
+use lib.ListN.{length, getD, take, drop, length-drop, take-append-drop, drop-of-length-le}
+use lib.Seq.{drop-cons, drop-drop, length-take-le}
 use borrow.Author.Tests.{eq-eqb, ne-eqb}
 use Rattle.lists.specs.Lists.{sameList}
 use Rattle.list_laws.specs.Test.{same-eq, to-false}
@@ -42,3 +44,25 @@ module _ (a b : List ℕ) (i : ℕ) (h : i < length a) (k : i < length b) where
 
 pub long-end : (a b : List ℕ) (i : ℕ) → length a ≤ i → length b ≤ i → (found : Bool) → (found && sameList (drop i a) (drop i b)) ≡ sameList a b → found ≡ sameList a b
 long-end a b i h k found e = sym (and-yes found) ∙ ap (λ (x : Bool). found && x) (sym (same-end a b i h k)) ∙ e
+
+-- ---- part by part
+pub same-append : (a b c d : List ℕ) → length a ≡ length c → sameList (a ++ b) (c ++ d) ≡ (sameList a c && sameList b d)
+same-append [] b [] d e = refl
+same-append [] b (y ∷ c) d e = absurd (omega (arith, e))
+same-append (x ∷ a) b [] d e = absurd (omega (arith, e))
+same-append (x ∷ a) b (y ∷ c) d e =
+    ap (λ (t : Bool). eqb x y && t) (same-append a b c d (omega (arith, e))) ∙ sym (and-assoc (eqb x y) (sameList a c) (sameList b d))
+
+-- from index i on: the next n bytes, then those behind them
+module _ (a b : List ℕ) (i n m : ℕ) (t : Bool) (e : m ≡ n) (found : t ≡ sameList (take m (drop i a)) (take m (drop i b))) where
+  pub same-next : i + n ≤ length a → i + n ≤ length b → (t && sameList (drop (i + n) a) (drop (i + n) b)) ≡ sameList (drop i a) (drop i b)
+  same-next h k =
+      let x : length (take n (drop i a)) ≡ n = length-take-le n (drop i a) (simp length-drop (omega arith)) in
+      let y : length (take n (drop i b)) ≡ n = length-take-le n (drop i b) (simp length-drop (omega arith)) in
+      rw (found, e, ← drop-drop n i a, ← drop-drop n i b)
+      (sym (same-append (take n (drop i a)) (drop n (drop i a)) (take n (drop i b)) (drop n (drop i b)) (x ∙ sym y)) ∙ ap₂ sameList (take-append-drop n (drop i a)) (take-append-drop n (drop i b)))
+
+  -- and nothing behind them
+  pub same-last : i + n ≡ length a → i + n ≡ length b → t ≡ sameList (drop i a) (drop i b)
+  same-last h k =
+      sym (and-yes t) ∙ ap (λ (x : Bool). t && x) (sym (same-end a b (i + n) (omega arith) (omega arith))) ∙ same-next (omega arith) (omega arith)

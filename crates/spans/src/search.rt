@@ -34,8 +34,8 @@ pub fn same(a: &[u8], b: &[u8]) -> bool
     true
 }
 
-// The same of long spans of one length: no byte is left out, so that many are compared at a time.
-pub fn same_long(a: &[u8], b: &[u8]) -> bool
+// The same of spans of one length: no byte is left out, so that many are compared at a time.
+fn same_all(a: &[u8], b: &[u8]) -> bool
     requires { ⌜ length (now a) ≡ length (now b) ⌝ }
     ensures { λ r. ⌜ r ≡ sameList (now (a .entry)) (now (b .entry)) ⌝ }
 {
@@ -48,6 +48,23 @@ pub fn same_long(a: &[u8], b: &[u8]) -> bool
         i += 1;
     }
     differ == 0
+}
+
+// The same of long spans, by 512 bytes: a count that the compiler knows.
+pub fn same_long(a: &[u8], b: &[u8]) -> bool
+    requires { ⌜ length (now a) ≡ length (now b) ⌝ }
+    ensures { λ r. ⌜ r ≡ sameList (now (a .entry)) (now (b .entry)) ⌝ }
+{
+    let n = a.len();
+    let mut i = 0;
+    while 512 <= n - i {
+        let e = i + 512;
+        if !same_all(&a[i..e], &b[i..e]) {
+            return false;
+        }
+        i = e;
+    }
+    same_all(&a[i..n], &b[i..n])
 }
 
 // Whether every byte is zero; no byte is left out, so that many are tested at a time.

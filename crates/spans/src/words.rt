@@ -4,6 +4,7 @@ ghost use Prim.Native.Nat.{_+_, _*_, _≤_};
 ghost use lib.ListN.{length};
 ghost use Rattle.lists.specs.Lists.{wordOf, word, bytes4, withPart, least};
 ghost use Rattle.spans.specs.Alike.{fourSame, wordIs, wordSame, wordDiffers};
+use crate::search::same_long;
 
 // The word of four bytes, the first the most significant.
 pub fn word_of(a: u8, b: u8, c: u8, d: u8) -> u32
@@ -65,8 +66,8 @@ pub fn word_same(p: &[u8], q: &[u8], k: usize) -> bool
     )
 }
 
-// The first of n words that is not the same in p and q, or n.
-pub fn same_words(p: &[u8], q: &[u8], n: usize) -> usize
+// The first of n words that is not the same in p and q, or n: one by one.
+fn other_word(p: &[u8], q: &[u8], n: usize) -> usize
     requires { ⌜ (4 * n ≤ length (now p)) × (4 * n ≤ length (now q)) ⌝ }
     ensures { λ r. ⌜ r ≡ least (wordDiffers (now (p .entry)) (now (q .entry))) n ⌝ }
 {
@@ -78,4 +79,16 @@ pub fn same_words(p: &[u8], q: &[u8], n: usize) -> usize
         k += 1;
     }
     n
+}
+
+// The same where most are expected to be the same: all are compared at once first.
+pub fn same_words(p: &[u8], q: &[u8], n: usize) -> usize
+    requires { ⌜ (4 * n ≤ length (now p)) × (4 * n ≤ length (now q)) ⌝ }
+    ensures { λ r. ⌜ r ≡ least (wordDiffers (now (p .entry)) (now (q .entry))) n ⌝ }
+{
+    let end = 4 * n;
+    if same_long(&p[0..end], &q[0..end]) {
+        return n;
+    }
+    other_word(p, q, n)
 }

@@ -1,7 +1,6 @@
 // TFS: files in an image that the caller holds. Every request but format and mend runs the check first, and gives its fault where the volume is not consistent.
 mod answers; // answers.rt: the answers made of what the crates below give
 mod look; // look.rt: list on a consistent volume
-mod mends; // mends.rt: mend on a volume that is not
 
 ghost use mathlib.Core.Path.{_≡_};
 ghost use Rattle.tfs_spec.specs.Check.{check};
@@ -14,7 +13,6 @@ use crate::answers::fault_of;
 use crate::answers::replay_of;
 use crate::answers::transfer_of;
 use crate::look::list_step;
-use crate::mends::mend_faulty;
 use tfs_change::create_step;
 use tfs_change::remove_step;
 use tfs_check::Verdict;
@@ -235,8 +233,8 @@ pub fn write_store(
 pub fn mend(image: &mut [u8]) -> Done
     ensures { λ r. ⌜ (doneTold r ≡ mend 512 (now (image .entry)) .answer) × (now (image .exit) ≡ mend 512 (now (image .entry)) .image) × DoneFits r ⌝ }
 {
-    match check(image) {
-        CheckAnswer::Consistent => Done::Granted,
-        CheckAnswer::Refused(f) => mend_faulty(image, f),
+    match tfs_mend::mend(image) {
+        Verdict::Consistent => Done::Granted,
+        Verdict::Broken(rule, place) => Done::Inconsistent(fault_of(rule, place)),
     }
 }

@@ -1,40 +1,18 @@
 -- The claims of the files in a volume whose slots and inodes are right, slot by slot.
 use mathlib.Core.Path.{_≡_, refl, sym, ap}
 use mathlib.Core.Bool.{Bool, true, false}
-use Prim.Native.Nat.{ℕ, zero, suc, _+_, _*_, _≤_, _<_}
+use Prim.Native.Nat.{ℕ, zero, suc, _+_, _≤_, _<_}
 use native.Mathlib.Numerals.{add-one}
 use native.Mathlib.Omega.{arith}
 use mathlib.Core.List.{List, [], _∷_, _++_}
-use lib.ListN.{length}
-use Rattle.tfs_spec.specs.Layout.{blocks, block, setBits, need, inodeSize, View, view, free, inode}
+use Rattle.tfs_spec.specs.Layout.{blocks, block, setBits, View, view, free, inode}
 use Rattle.tfs_spec.specs.Check.{fileClaims, claimsTo, claims}
 use Rattle.tfs_map.specs.Bits.{bits-append}
 use Rattle.tfs_inode.specs.Claims.{Within, claimList, file-claims, claims-within}
 use Rattle.tfs_check.specs.Doubled.{doubled, doubled-none, doubled-append}
-use Rattle.tfs_inode.specs.Wrong.{inodeWrong, right-need}
-use Rattle.tfs_check.specs.Files.{Sized, blocks-le, inode-over, inode-under, inode-fits, right-at, claims-at}
+use Rattle.tfs_check.specs.Files.{Sized, blocks-le, inode-over, inode-under, right-at, claims-at}
 
--- ---- the file in slot s, whose inode is in block b
-pub record Held (img : List ℕ) (s b : ℕ) : Type 0 where
-  pub fits : b * 512 + 512 ≤ length img
-  pub small : need 512 (inodeSize (block 512 img b)) ≤ 127
-  pub within : Within 4096 (claimList b (block 512 img b))
-  pub claimed : fileClaims 512 (view 512 img) s ≡ claimList b (block 512 img b)
-
-pub held : (img : List ℕ) (s b : ℕ) → Sized img → s < 25 → free (view 512 img) s ≡ false → b ≡ inode (view 512 img) s → Held img s b
-held img s b w h taken e =
-    let ino : List ℕ = block 512 img (inode (view 512 img) s) in
-    let right : inodeWrong 512 (blocks 512 img) ino ≡ false = right-at img s h (w .slots) taken (w .inodes) in
-    let within : Within (blocks 512 img) (claimList (inode (view 512 img) s) ino) = claims-within (blocks 512 img) (inode (view 512 img) s) ino (inode-over img s h (w .slots) taken) (inode-under img s h (w .slots) taken) right in
-    rw e
-    (record {
-      fits = inode-fits img s h (w .slots) taken;
-      small = right-need (blocks 512 img) ino right;
-      within = λ i l. (within i l .0, omega (arith, within i l .1, blocks-le img));
-      claimed = claims-at img s h (w .slots) taken;
-    })
-
--- a free slot claims nothing
+-- ---- a free slot claims nothing
 module _ (v : View) (s : ℕ) (map : List ℕ) (e : free v s ≡ true) where
   pub none-marked : map ≡ setBits map 1 (fileClaims 512 v s)
   none-marked = rw (file-claims v s, e)
@@ -75,7 +53,10 @@ file-within img s w h = by (free (view 512 img) s) refl
   where
     by : (t : Bool) → free (view 512 img) s ≡ t → Within 4096 (fileClaims 512 (view 512 img) s)
     by true e = rw (file-claims (view 512 img) s, e) (λ i l. absurd (omega arith))
-    by false e = let f : Held img s (inode (view 512 img) s) = held img s (inode (view 512 img) s) w h e refl in rw (f .claimed) (f .within)
+    by false e =
+        let b : ℕ = inode (view 512 img) s in
+        let within : Within (blocks 512 img) (claimList b (block 512 img b)) = claims-within (blocks 512 img) b (block 512 img b) (inode-over img s h (w .slots) e) (inode-under img s h (w .slots) e) (right-at img s h (w .slots) e (w .inodes)) in
+        rw (claims-at img s h (w .slots) e) (λ i l. (within i l .0, omega (arith, within i l .1, blocks-le img)))
 
 claims-to-within : (img : List ℕ) → Sized img → (s : ℕ) → s ≤ 25 → Within 4096 (claimsTo 512 (view 512 img) s)
 unfolding claimsTo

@@ -159,7 +159,7 @@ module _ (n : ℕ) (ino : List ℕ) (right : inodeWrong 512 n ino ≡ false) whe
   unfolding inodeWrong
   right-size = ltb-false 65024 (inodeSize ino) (or-no-l (ltb 65024 (inodeSize ino)) (ltb (least (numberWrong 512 n ino) 127) 127) right)
 
-  pub right-need : need 512 (inodeSize ino) ≤ 127
+  right-need : need 512 (inodeSize ino) ≤ 127
   right-need = need-small (inodeSize ino) right-size
 
   pub right-number : (k : ℕ) → k < need 512 (inodeSize ino) → (3 ≤ inodeNumber ino k) × (inodeNumber ino k < n)

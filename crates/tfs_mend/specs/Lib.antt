@@ -1,4 +1,3 @@
 pub mod Missing
 pub mod Extra
-pub mod Marked
 pub mod Mended

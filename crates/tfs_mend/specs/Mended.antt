@@ -4,9 +4,9 @@ use mathlib.Core.Bool.{Bool, true, false, not, cond, _&&_, _||_, Bool·beq}
 use Prim.Native.Nat.{ℕ, zero, suc, _≤_, _<_}
 use native.Mathlib.Omega.{arith}
 use mathlib.Core.List.{List}
-use lib.ListN.{length, set}
+use lib.ListN.{length}
 use lib.Dec.{leb, ltb, eqb, lt→ltb, ltb→lt, nltb→le}
-use Rattle.lists.specs.Lists.{zeros, least}
+use Rattle.lists.specs.Lists.{least}
 use native.Mathlib.Decide.{decLe}
 use borrow.Author.Tests.{le-leb, lt-leb, le-ltb, lt-ltb, ne-eqb}
 use Rattle.list_laws.specs.Test.{by-test, to-true, no-false}
@@ -16,18 +16,13 @@ use Rattle.tfs_spec.specs.Check.{Verdict, consistent, broken, found, badMagic, 
 use Rattle.tfs_spec.specs.Requests.{Outcome, clearStrays, mended, mend}
 use Rattle.tfs_facts.specs.Sizes.{size-512}
 use Rattle.tfs_facts.specs.Views.{view-n, view-map}
+use Rattle.tfs_facts.specs.FreshMap.{formatMap}
 use Rattle.tfs_facts.specs.Mends.{mend-is, short-same, withMap, claims-same, map′, mended-is, mended-long, mended-view, mended-bit}
 use Rattle.tfs_check.specs.Files.{Sized, blocks-le}
 use Rattle.tfs_check.specs.Owned.{Marks}
-use Rattle.tfs_check.specs.Order.{blocksVerdict, inOrder, filesVerdict, thenRules, check-then, files-sized, files-kept, twice-here, marks-at}
+use Rattle.tfs_check.specs.Order.{twiceVerdict, mapVerdict, inOrder, claimsVerdict, thenRules, check-then, claims-kept, marks-at}
 use Rattle.tfs_mend.specs.Missing.{isMissing}
 use Rattle.tfs_mend.specs.Extra.{isExtra, clearExtra}
-
--- rules 6 and 7, of which a set bit that nobody claims breaks none
-unfoldable mendVerdict : ℕ → View → List ℕ → Verdict
-mendVerdict n v owned =
-    let r7 : Verdict = found 7 n (least (isMissing (v .map) owned) n) consistent in
-    found 6 n (least (claimedTwice (claims 512 v)) n) r7
 
 -- ---- bit by bit
 under-three : (b : ℕ) → leb 3 b ≡ not (ltb b 3)
@@ -73,25 +68,47 @@ module _ (v : View) (owned : List ℕ) (marks : Marks owned (claims 512 v)) wher
       ∙ ap (λ (x : Bool). not (Bool·beq (cond x false (mapBit (v .map) b)) (mapBit owned b))) (stray-is b h)
       ∙ missing-by (mapBit (v .map) b) (mapBit owned b)
 
--- ---- rules 1 to 5 look at no bit
-files-with : (img new m : List ℕ) → length new ≡ length img → view 512 new ≡ withMap (view 512 img) m → filesVerdict new ≡ filesVerdict img
-unfolding filesVerdict badMagic badLabel badSlot badInode badNumber repeats free used name size number
-files-with img new m l e = ap₂ (λ (n : ℕ) (v : View). inOrder (ltb n 1536) (badMagic v) (badLabel v) (least (badSlot v) 25) (least (badInode 512 v) 25) consistent) l e
+-- ---- rules 1 to 6 look at no bit
+claims-with : (img new m : List ℕ) → length new ≡ length img → view 512 new ≡ withMap (view 512 img) m → claimsVerdict new ≡ claimsVerdict img
+unfolding claimsVerdict twiceVerdict badMagic badLabel badSlot badInode badNumber repeats free used name size number
+claims-with img new m l e =
+    let v : View = view 512 img in
+    let same : blocks 512 new ≡ blocks 512 img = sym (view-n 512 new) ∙ ap (λ (x : View). x .n) e ∙ view-n 512 img in
+    ap₂ (λ (k : ℕ) (x : View). inOrder (ltb k 1536) (badMagic x) (badLabel x) (least (badSlot x) 25) (least (badInode 512 x) 25) (twiceVerdict (blocks 512 new) x)) l e
+    ∙ ap₂ (λ (n : ℕ) (cs : List ℕ). inOrder (ltb (length img) 1536) (badMagic v) (badLabel v) (least (badSlot v) 25) (least (badInode 512 v) 25) (found 6 n (least (claimedTwice cs) n) consistent)) same (claims-same 512 v m)
 
-files-mended : (img : List ℕ) → filesVerdict (mended 512 img) ≡ filesVerdict img
-files-mended img =
+claims-mended : (img : List ℕ) → claimsVerdict (mended 512 img) ≡ claimsVerdict img
+claims-mended img =
     elim (decLe 1536 (length img)) [
-      | yes long ↦ files-with img (mended 512 img) (map′ 512 size-512 img long) (mended-long 512 size-512 img long) (mended-view 512 size-512 img long)
-      | no l ↦ ap filesVerdict (short-same 512 img (omega arith))
+      | yes long ↦ claims-with img (mended 512 img) (map′ 512 size-512 img long) (mended-long 512 size-512 img long) (mended-view 512 size-512 img long)
+      | no l ↦ ap claimsVerdict (short-same 512 img (omega arith))
     ]
 
--- ---- the check of the mended volume
-module _ (img : List ℕ) (kept : filesVerdict img ≡ consistent) (owned : List ℕ) (marks : Marks owned (claims 512 (view 512 img))) where
+-- so the check of the mended volume is that of the volume, then rule 7 of the mended map
+then-map : (img : List ℕ) (x : Verdict) → claimsVerdict img ≡ x → check 512 (mended 512 img) ≡ thenRules x (mapVerdict (blocks 512 (mended 512 img)) (view 512 (mended 512 img)))
+then-map img x e = check-then (mended 512 img) ∙ ap (λ (y : Verdict). thenRules y (mapVerdict (blocks 512 (mended 512 img)) (view 512 (mended 512 img)))) (claims-mended img ∙ e)
+
+-- a mend that is refused leaves the image
+refusal : (img : List ℕ) (num p : ℕ) → check 512 (mended 512 img) ≡ broken num p → (broken num p ≡ check 512 (mended 512 img)) × (img ≡ mend 512 img .image)
+refusal img num p c = (sym c, sym (ap (λ (o : Outcome). o .image) (mend-is 512 img (broken num p) c)))
+
+-- ---- what mend does, by what was found: one of rules 1 to 6 is broken
+pub mend-broken : (img : List ℕ) (num p : ℕ) → claimsVerdict img ≡ broken num p → (broken num p ≡ check 512 (mended 512 img)) × (img ≡ mend 512 img .image)
+mend-broken img num p e = refusal img num p (then-map img (broken num p) e)
+
+-- or they are kept, and rule 7 decides, of which a set bit that nobody claims breaks nothing
+module _ (img : List ℕ) (kept : claimsVerdict img ≡ consistent) (owned : List ℕ) (is : owned ≡ setBits (formatMap 512) 1 (claims 512 (view 512 img))) where
+  abbrev n : ℕ
+  n = blocks 512 img
+
   abbrev v : View
   v = view 512 img
 
   w : Sized img
-  w = files-sized img kept
+  w = claims-kept img kept
+
+  marks : Marks owned (claims 512 v)
+  marks = rw is (marks-at img w)
 
   abbrev m : List ℕ
   m = map′ 512 size-512 img (w .long)
@@ -100,60 +117,28 @@ module _ (img : List ℕ) (kept : filesVerdict img ≡ consistent) (owned : List
   bit-at b h =
       mended-bit 512 size-512 img (w .long) b ∙ ap (λ (x : Bool). cond (x && stray 512 v b) false (mapBit (v .map) b)) (to-true (ltb b (v .n)) (lt→ltb b (v .n) h))
 
-  n-is : v .n ≡ blocks 512 img
+  n-is : v .n ≡ n
   n-is = view-n 512 img
 
-  blocks-mended : blocksVerdict (blocks 512 (mended 512 img)) (view 512 (mended 512 img)) ≡ mendVerdict (blocks 512 img) v owned
-  unfolding blocksVerdict mendVerdict
-  blocks-mended =
-      ap₂ (λ (n : ℕ) (x : View). blocksVerdict n x) (sym (view-n 512 (mended 512 img)) ∙ ap (λ (x : View). x .n) (mended-view 512 size-512 img (w .long)) ∙ n-is) (mended-view 512 size-512 img (w .long))
-      ∙ ap (λ (cs : List ℕ). found 6 (blocks 512 img) (least (claimedTwice cs) (blocks 512 img)) (found 7 (blocks 512 img) (least (badBit (withMap v m) cs) (blocks 512 img)) consistent)) (claims-same 512 v m)
-      ∙ ap (λ (x : ℕ). found 6 (blocks 512 img) (least (claimedTwice (claims 512 v)) (blocks 512 img)) (found 7 (blocks 512 img) x consistent))
-      (least-cong (badBit (withMap v m) (claims 512 v)) (isMissing (v .map) owned) (blocks 512 img)
-      (λ b h. missing-is v owned marks m b (omega (arith, blocks-le img)) (bit-at b (omega (arith, n-is)))))
-
-  check-mended : check 512 (mended 512 img) ≡ mendVerdict (blocks 512 img) v owned
+  check-mended : check 512 (mended 512 img) ≡ found 7 n (least (isMissing (v .map) owned) n) consistent
+  unfolding mapVerdict
   check-mended =
-      check-then (mended 512 img) ∙ ap (λ (x : Verdict). thenRules x (blocksVerdict (blocks 512 (mended 512 img)) (view 512 (mended 512 img)))) (files-mended img ∙ kept) ∙ blocks-mended
+      then-map img consistent kept
+      ∙ ap₂ mapVerdict (sym (view-n 512 (mended 512 img)) ∙ ap (λ (x : View). x .n) (mended-view 512 size-512 img (w .long)) ∙ n-is) (mended-view 512 size-512 img (w .long))
+      ∙ ap (λ (cs : List ℕ). found 7 n (least (badBit (withMap v m) cs) n) consistent) (claims-same 512 v m)
+      ∙ ap (λ (x : ℕ). found 7 n x consistent)
+      (least-cong (badBit (withMap v m) (claims 512 v)) (isMissing (v .map) owned) n (λ b h. missing-is v owned marks m b (omega (arith, blocks-le img)) (bit-at b (omega (arith, n-is)))))
 
   -- the image that is left
-  image-mended : mended 512 img ≡ setBlock 512 img 1 (clearExtra (block 512 img 1) owned (blocks 512 img))
+  image-mended : mended 512 img ≡ setBlock 512 img 1 (clearExtra (block 512 img 1) owned n)
   image-mended =
       mended-is 512 size-512 img (w .long)
-      ∙ ap (setBlock 512 img 1) (cleared-is v owned marks (v .n) (omega (arith, blocks-le img, n-is)) ∙ ap₂ (λ (x : List ℕ) (n : ℕ). clearExtra x owned n) (view-map 512 img) n-is)
+      ∙ ap (setBlock 512 img 1) (cleared-is v owned marks (v .n) (omega (arith, blocks-le img, n-is)) ∙ ap₂ (λ (x : List ℕ) (k : ℕ). clearExtra x owned k) (view-map 512 img) n-is)
 
--- ---- what mend does, by what was found
-module _ (img : List ℕ) (kept : filesVerdict img ≡ consistent) (owned : List ℕ) (marks : Marks owned (claims 512 (view 512 img))) where
-  abbrev n : ℕ
-  n = blocks 512 img
+  pub mend-missing : (b : ℕ) → b ≡ least (isMissing (view 512 img .map) owned) n → b < n → (broken 7 b ≡ check 512 (mended 512 img)) × (img ≡ mend 512 img .image)
+  mend-missing b d l = refusal img 7 b (check-mended ∙ rw (← d, lt-ltb _ _ l))
 
-  pub mend-twice : (b : ℕ) → b ≡ least (claimedTwice (claims 512 (view 512 img))) n → b < n → (broken 6 b ≡ check 512 (mended 512 img)) × (img ≡ mend 512 img .image)
-  unfolding mendVerdict
-  mend-twice b e l =
-      let c : check 512 (mended 512 img) ≡ broken 6 b = check-mended img kept owned marks ∙ rw (← e, lt-ltb _ _ l) in
-      (sym c, sym (ap (λ (o : Outcome). o .image) (mend-is 512 img (broken 6 b) c)))
-
-  pub mend-missing : (t b : ℕ) → t ≡ least (claimedTwice (claims 512 (view 512 img))) n → n ≤ t → b ≡ least (isMissing (view 512 img .map) owned) n → b < n → (broken 7 b ≡ check 512 (mended 512 img)) × (img ≡ mend 512 img .image)
-  unfolding mendVerdict
-  mend-missing t b e h d l =
-      let c : check 512 (mended 512 img) ≡ broken 7 b = check-mended img kept owned marks ∙ rw (← e, le-ltb _ _ h, ← d, lt-ltb _ _ l) in
-      (sym c, sym (ap (λ (o : Outcome). o .image) (mend-is 512 img (broken 7 b) c)))
-
-  pub mend-done : (t b : ℕ) → t ≡ least (claimedTwice (claims 512 (view 512 img))) n → n ≤ t → b ≡ least (isMissing (view 512 img .map) owned) n → n ≤ b → (consistent ≡ check 512 (mended 512 img)) × (setBlock 512 img 1 (clearExtra (block 512 img 1) owned n) ≡ mend 512 img .image)
-  unfolding mendVerdict
-  mend-done t b e h d l =
-      let c : check 512 (mended 512 img) ≡ consistent = check-mended img kept owned marks ∙ rw (← e, le-ltb _ _ h, ← d, le-ltb _ _ l) in
-      (sym c, sym (image-mended img kept owned marks) ∙ sym (ap (λ (o : Outcome). o .image) (mend-is 512 img consistent c)))
-
--- rules 1 to 5 broken
-pub mend-files : (img : List ℕ) (num p : ℕ) → filesVerdict img ≡ broken num p → (broken num p ≡ check 512 (mended 512 img)) × (img ≡ mend 512 img .image)
-mend-files img num p e =
-    let c : check 512 (mended 512 img) ≡ broken num p = check-then (mended 512 img) ∙ ap (λ (x : Verdict). thenRules x (blocksVerdict (blocks 512 (mended 512 img)) (view 512 (mended 512 img)))) (files-mended img ∙ e) in
-    (sym c, sym (ap (λ (o : Outcome). o .image) (mend-is 512 img (broken num p) c)))
-
--- a block claimed twice
-pub mend-claimed : (img : List ℕ) (p : ℕ) → check 512 img ≡ broken 6 p → (broken 6 p ≡ check 512 (mended 512 img)) × (img ≡ mend 512 img .image)
-mend-claimed img p e =
-    let kept : filesVerdict img ≡ consistent = files-kept img 6 p e (omega arith) in
-    let here = twice-here img 6 p e refl in
-    mend-twice img kept (setBits (set (zeros 512) 3 7) 1 (claims 512 (view 512 img))) (marks-at img (files-sized img kept)) p (here .0) (here .1)
+  pub mend-done : (b : ℕ) → b ≡ least (isMissing (view 512 img .map) owned) n → n ≤ b → (consistent ≡ check 512 (mended 512 img)) × (setBlock 512 img 1 (clearExtra (block 512 img 1) owned n) ≡ mend 512 img .image)
+  mend-done b d l =
+      let c : check 512 (mended 512 img) ≡ consistent = check-mended ∙ rw (← d, le-ltb _ _ l) in
+      (sym c, sym image-mended ∙ sym (ap (λ (o : Outcome). o .image) (mend-is 512 img consistent c)))

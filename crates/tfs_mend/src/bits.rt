@@ -1,10 +1,12 @@
 // The bits that two maps do not share.
 ghost use mathlib.Core.Path.{_≡_};
+ghost use mathlib.Core.Bool.{true};
 ghost use Prim.Native.Nat.{_+_, _*_, _≤_, _<_};
 ghost use mathlib.Core.List.{_++_};
 ghost use lib.ListN.{length, take, drop};
 ghost use Rattle.lists.specs.Lists.{least};
-ghost use Rattle.tfs_mend.specs.Missing.{wordLacks, isMissing};
+ghost use Rattle.list_laws.specs.Least.{Below};
+ghost use Rattle.tfs_mend.specs.Missing.{wordLacks, byteLacks, isMissing};
 ghost use Rattle.tfs_mend.specs.Extra.{isExtra, oneCleared, clearExtra};
 use spans::copy::copy;
 use spans::words::be32;
@@ -36,6 +38,34 @@ fn first_lacking(map: &[u8], owned: &[u8], n: usize) -> usize
     n
 }
 
+// Whether no byte of map lacks a bit that the byte of owned has; none is left out, so that many are tested at a time. Nothing is promised of a no.
+fn none_lacks(map: &[u8], owned: &[u8]) -> bool
+    requires { ⌜ length (now map) ≡ length (now owned) ⌝ }
+    ensures { λ r. ⌜ (r ≡ true → Below (byteLacks (now (map .entry)) (now (owned .entry))) (length (now (map .entry)))) ⌝ }
+{
+    let mut lacks = 0u8;
+    let mut i = 0;
+    while i < map.len() {
+        if owned[i] & map[i] != owned[i] {
+            lacks = 1;
+        }
+        i += 1;
+    }
+    lacks == 0
+}
+
+// So many of n words have no bit missing: all, or those before the first that lacks one. That there are no more is a matter of speed, and not promised.
+fn held_words(map: &[u8], owned: &[u8], n: usize) -> usize
+    requires { ⌜ (4 * n ≤ length (now map)) × (4 * n ≤ length (now owned)) ⌝ }
+    ensures { λ r. ⌜ (r ≤ n) × Below (isMissing (now (map .entry)) (now (owned .entry))) (32 * r) ⌝ }
+{
+    let end = 4 * n;
+    if none_lacks(&map[0..end], &owned[0..end]) {
+        return n;
+    }
+    first_lacking(map, owned, n)
+}
+
 // Whether bit k is 0 in map and 1 in owned.
 fn is_missing(map: &[u8], owned: &[u8], k: usize) -> bool
     requires { ⌜ (length (now map) ≡ 512) × (length (now owned) ≡ 512) × (k < 4096) ⌝ }
@@ -49,7 +79,7 @@ pub fn first_missing(map: &[u8], owned: &[u8], n: usize) -> usize
     requires { ⌜ (length (now map) ≡ 512) × (length (now owned) ≡ 512) × (n ≤ 4096) ⌝ }
     ensures { λ r. ⌜ r ≡ least (isMissing (now (map .entry)) (now (owned .entry))) n ⌝ }
 {
-    let words = first_lacking(map, owned, n / 32);
+    let words = held_words(map, owned, n / 32);
     let mut k = 32 * words;
     while k < n {
         if is_missing(map, owned, k) {

@@ -1,22 +1,22 @@
 // Mend: the set bits of the map that no file claims are cleared.
 mod bits; // bits.rt: the bits that two maps do not share
-mod marks; // marks.rt: the blocks of all files, marked in a map of their own
 
 ghost use mathlib.Core.Path.{_≡_};
 ghost use Prim.Native.Nat.{_≤_};
 ghost use lib.ListN.{length};
 ghost use Rattle.lists.specs.Lists.{least};
-ghost use Rattle.tfs_spec.specs.Layout.{blocks, block, setBlock, view};
-ghost use Rattle.tfs_spec.specs.Check.{consistent, claims, claimedTwice, check};
+ghost use Rattle.tfs_spec.specs.Layout.{block, setBlock, setBits, view};
+ghost use Rattle.tfs_spec.specs.Check.{consistent, claims, check};
 ghost use Rattle.tfs_spec.specs.Requests.{mended, mend};
+ghost use Rattle.tfs_facts.specs.FreshMap.{formatMap};
 ghost use Rattle.tfs_check.specs.Told.{verdictTold, VerdictFits};
-ghost use Rattle.tfs_check.specs.Order.{filesVerdict};
+ghost use Rattle.tfs_check.specs.Order.{claimsVerdict};
 ghost use Rattle.tfs_mend.specs.Missing.{isMissing};
 ghost use Rattle.tfs_mend.specs.Extra.{clearExtra};
 use crate::bits::clear_extra;
 use crate::bits::first_missing;
-use crate::marks::mark_files;
 use tfs_check::Verdict;
+use tfs_check::check_claims;
 use tfs_layout::BLOCK;
 use tfs_layout::DIR_AT;
 use tfs_layout::MAP_AT;
@@ -31,19 +31,28 @@ fn clear_map(image: &mut [u8], owned: &[u8], n: usize)
     clear_extra(&mut image[MAP_AT..DIR_AT], owned, n);
 }
 
-// Mends a volume that keeps rules 1 to 6, or gives the first bit that is missing: the claimed blocks get a map of their own, as in the check.
-pub fn mend_blocks(image: &mut [u8]) -> Verdict
-    requires { ⌜ (filesVerdict (now image) ≡ consistent) × (blocks 512 (now image) ≤ least (claimedTwice (claims 512 (view 512 (now image)))) (blocks 512 (now image))) ⌝ }
+// Mends a volume that keeps rules 1 to 6, from the map of the claimed blocks, or gives the first bit that is missing.
+fn mend_map(image: &mut [u8], owned: &[u8; BLOCK]) -> Verdict
+    requires { ⌜ (claimsVerdict (now image) ≡ consistent) × (now owned ≡ setBits (formatMap 512) 1 (claims 512 (view 512 (now image)))) ⌝ }
     ensures { λ r. ⌜ (verdictTold r ≡ check 512 (mended 512 (now (image .entry)))) × (now (image .exit) ≡ mend 512 (now (image .entry)) .image) × VerdictFits r ⌝ }
 {
     let n = blocks(image);
-    let mut owned = [0u8; BLOCK];
-    owned[3] = 7;
-    mark_files(image, &mut owned);
-    let missing = first_missing(map_of(image), &owned, n);
+    let missing = first_missing(map_of(image), owned, n);
     if missing < n {
         return Verdict::Broken(7, missing as u32);
     }
-    clear_map(image, &owned, n);
+    clear_map(image, owned, n);
     Verdict::Consistent
+}
+
+// Mends the volume, or gives the first rule that it breaks when the bits that no file claims are clear.
+pub fn mend(image: &mut [u8]) -> Verdict
+    ensures { λ r. ⌜ (verdictTold r ≡ check 512 (mended 512 (now (image .entry)))) × (now (image .exit) ≡ mend 512 (now (image .entry)) .image) × VerdictFits r ⌝ }
+{
+    let mut owned = [0u8; BLOCK];
+    let all = image.len();
+    match check_claims(&image[0..all], &mut owned) {
+        Verdict::Broken(rule, place) => Verdict::Broken(rule, place),
+        Verdict::Consistent => mend_map(image, &owned),
+    }
 }

@@ -20,6 +20,10 @@ Small ino e = (k : ℕ) → k * 512 < e → inodeNumber ino k < 4096
 abbrev pub Inside : List ℕ → ℕ → ℕ → Type 0
 Inside ino e len = (k : ℕ) → k * 512 < e → inodeNumber ino k * 512 + 512 ≤ len
 
+-- b is the number of the block of position p, where p is before end
+abbrev pub Numbered : List ℕ → ℕ → ℕ → ℕ → Type 0
+Numbered ino p end b = p < end → b ≡ inodeNumber ino (p / 512)
+
 -- n values of f, from that at i on, are one after another
 abbrev pub Counts : (ℕ → ℕ) → ℕ → ℕ → Type 0
 Counts f i n = (j : ℕ) → j < n → f (i + j) ≡ f i + j
@@ -37,6 +41,16 @@ one-more f i n h e j l =
       | yes k ↦ h j k
       | no k ↦ let z : j ≡ n = omega arith in rw z e
     ]
+
+-- the number at the start
+pub numbered-start : (ino : List ℕ) (o end b : ℕ) → Numbered ino o end b → Numbered ino (o + 0) end b
+numbered-start ino o end b h = rw add-zero h
+
+-- the number behind d bytes and a run of r more, m being the rest of the n bytes behind the d
+pub numbered-more : (ino : List ℕ) (o d r n m b : ℕ) → d + m ≡ n → Numbered ino (o + d + r) (o + d + m) b → Numbered ino (o + (d + r)) (o + n) b
+numbered-more ino o d r n m b e h l =
+    let same : o + (d + r) ≡ o + d + r = omega arith in
+    rw same (h (omega arith))
 
 -- the places of the file in slot s
 pub at-place : (v : View) (s : ℕ) → at (getD (v .inodes) s []) ≡ place 512 v s

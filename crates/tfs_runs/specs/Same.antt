@@ -1,25 +1,17 @@
 -- Bytes compared by runs.
-use mathlib.Core.Path.{_≡_, refl, sym, ap, _∙_}
-use mathlib.Core.Bool.{Bool, true, _&&_, and-assoc}
+use mathlib.Core.Path.{_≡_, sym, ap, _∙_}
+use mathlib.Core.Bool.{Bool, true, _&&_}
 use Prim.Native.Nat.{ℕ, _+_, _-_, _≤_}
-use mathlib.Core.List.{List, [], _∷_, _++_}
+use mathlib.Core.List.{List, _++_}
 use native.Mathlib.Omega.{arith}
 use native.Mathlib.Nat.{add-zero, sub-zero}
-use lib.Dec.{eqb}
 use lib.ListN.{length, getD, take, drop, length-drop, take-append-drop, drop-of-length-le}
 use lib.Seq.{drop-drop, length-take-le}
 use Rattle.lists.specs.Lists.{sameList, table}
 use Rattle.list_laws.specs.Table.{length-table}
+use Rattle.spans.specs.Same.{same-append}
 use Rattle.tfs_runs.specs.Place.{at, Straight}
 use Rattle.tfs_runs.specs.Read.{table-join, table-run}
-
--- lists compared part by part
-same-append : (a b c d : List ℕ) → length a ≡ length c → sameList (a ++ b) (c ++ d) ≡ (sameList a c && sameList b d)
-same-append [] b [] d e = refl
-same-append [] b (y ∷ c) d e = absurd (omega (arith, e))
-same-append (x ∷ a) b [] d e = absurd (omega (arith, e))
-same-append (x ∷ a) b (y ∷ c) d e =
-    ap (λ (t : Bool). eqb x y && t) (same-append a b c d (omega (arith, e))) ∙ sym (and-assoc (eqb x y) (sameList a c) (sameList b d))
 
 -- the rest behind d bytes: its first r, then the rest behind those
 abbrev pub SameFrom : (ℕ → ℕ) → ℕ → List ℕ → ℕ → Bool

@@ -4,10 +4,10 @@ use mathlib.Core.Bool.{Bool, true, false, cond}
 use Prim.Native.Nat.{ℕ, zero, suc, _+_, _-_, _*_, _≤_, _<_}
 use mathlib.Core.List.{List, [], _∷_}
 use native.Mathlib.Omega.{arith}
-use native.Mathlib.Numerals.{add-one, sub-one}
+use native.Mathlib.Numerals.{sub-one}
 use borrow.Author.Tests.{lt-ltb, le-ltb, eqb-false}
-use lib.ListN.{length, getD, drop, length-drop, drop-of-length-le}
-use lib.Seq.{drop-cons}
+use lib.ListN.{length, getD, take, drop, length-drop}
+use lib.Seq.{take-all}
 use lib.Dec.{ltb, eqb}
 use Rattle.tfs_spec.specs.Traces.{Parsed, parsed, malformed, followed, joinGroups, readGroups, readNumber}
 use Rattle.tfs_facts.specs.Forward.{never, same-next, same-what}
@@ -20,27 +20,31 @@ unfolding readGroups
 groups-none zero at l z = refl
 groups-none (suc f) at l z = absurd (omega arith)
 
-groups-nil : (f at : ℕ) → readGroups f at [] ≡ malformed
+pub groups-nil : (f at : ℕ) (l : List ℕ) → length l ≡ 0 → readGroups f at l ≡ malformed
 unfolding readGroups
-groups-nil zero at = refl
-groups-nil (suc f) at = refl
+groups-nil zero at l z = refl
+groups-nil (suc f) at [] z = refl
+groups-nil (suc f) at (x ∷ l) z = absurd (omega arith)
 
-module _ (t : List ℕ) (at : ℕ) where
-  pub groups-past : (f : ℕ) → length t ≤ at → readGroups f at (drop at t) ≡ malformed
-  groups-past f h = rw (drop-of-length-le t, groups-nil f at)
+-- a last group
+pub groups-last : (f at g : ℕ) (l : List ℕ) → (f ≡ 0 → ⊥) → 0 < length l → g ≡ getD l 0 0 → g < 128 → readGroups f at l ≡ parsed g (at + 1)
+unfolding readGroups
+groups-last zero at g l z h e low = absurd (z refl)
+groups-last (suc f) at g [] z h e low = absurd (omega arith)
+groups-last (suc f) at g (x ∷ l) z h e low = rw (← e, lt-ltb _ _ low)
 
-  -- a last group
-  pub groups-last : (f g : ℕ) → (f ≡ 0 → ⊥) → at < length t → g ≡ getD t at 0 → g < 128 → readGroups f at (drop at t) ≡ parsed g (at + 1)
-  unfolding readGroups
-  groups-last zero g z h e low = absurd (z refl)
-  groups-last (suc f) g z h e low = rw (drop-cons t at 0, ← e, lt-ltb _ _ low)
+-- a group with others above it, in the part behind it
+pub groups-more : (f at g n : ℕ) (l : List ℕ) → (f ≡ 0 → ⊥) → 0 < length l → g ≡ getD l 0 0 → 128 ≤ g → n ≡ length l
+    → readGroups f at l ≡ followed (readGroups (f - 1) (at + 1) (take (n - 1) (drop 1 l))) (joinGroups (g - 128))
+unfolding readGroups
+groups-more zero at g n l z h e high m = absurd (z refl)
+groups-more (suc f) at g n [] z h e high m = absurd (omega arith)
+groups-more (suc f) at g n (x ∷ l) z h e high m =
+    rw (← e, le-ltb _ _ high, sub-one, take-all (n - 1) l (omega arith))
 
-  -- a group with others above it
-  pub groups-more : (f g : ℕ) → (f ≡ 0 → ⊥) → at < length t → g ≡ getD t at 0 → 128 ≤ g
-      → readGroups f at (drop at t) ≡ followed (readGroups (f - 1) (at + 1) (drop (at + 1) t)) (joinGroups (g - 128))
-  unfolding readGroups
-  groups-more zero g z h e high = absurd (z refl)
-  groups-more (suc f) g z h e high = rw (drop-cons t at 0, ← e, le-ltb _ _ high, sub-one, add-one)
+-- the rest of a trace from a position on
+pub rest-of : (t : List ℕ) (at n : ℕ) → n ≡ length t → take (n - at) (drop at t) ≡ drop at t
+rest-of t at n e = take-all (n - at) (drop at t) (simp length-drop (omega arith))
 
 -- a number below 128 takes one byte
 low-not : (high low n : ℕ) → (high ≡ 0 → ⊥) → n < 128 → high * 128 + low ≡ n → ⊥

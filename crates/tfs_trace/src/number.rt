@@ -1,7 +1,7 @@
 // A number in groups of seven bits, low group first.
 ghost use mathlib.Core.Path.{_≡_};
-ghost use Prim.Native.Nat.{_<_};
-ghost use lib.ListN.{drop};
+ghost use Prim.Native.Nat.{_+_, _<_};
+ghost use lib.ListN.{length};
 ghost use Rattle.tfs_spec.specs.Traces.{readGroups, readNumber, joinGroups};
 ghost use Rattle.tfs_trace.specs.Told.{numberTold, NumberFits};
 use crate::Cursor;
@@ -18,24 +18,28 @@ pub fn number_at(trace: &[u8], at: usize) -> NumberRead
     if group < 128 {
         return NumberRead::Number(group, Cursor { at: at + 1 });
     }
-    groups(trace, at, 5)
+    let all = trace.len();
+    groups(&trace[at..all], at, 5)
 }
 
-// The number of at most left groups at a position.
-fn groups(trace: &[u8], at: usize, left: u32) -> NumberRead
-    ensures { λ r. ⌜ (numberTold r ≡ readGroups left at (drop at (now (trace .entry)))) × NumberFits (now (trace .entry)) at r ⌝ }
+// The number of at most left groups at the head of the rest of a trace, which stands at a position. Each group hands on the part behind it: a slice
+// handed on as it came is copied by a load of 16 bytes, which waits for the stores before it.
+fn groups(rest: &[u8], at: usize, left: u32) -> NumberRead
+    requires { ⌜ at + length (now rest) < 18446744073709551616 ⌝ }
+    ensures { λ r. ⌜ numberTold r ≡ readGroups left at (now (rest .entry)) ⌝ }
 {
     if left == 0 {
         return NumberRead::Malformed;
     }
-    if trace.len() <= at {
+    let all = rest.len();
+    if all == 0 {
         return NumberRead::Malformed;
     }
-    let group = wide(trace[at]);
+    let group = wide(rest[0]);
     if group < 128 {
         return NumberRead::Number(group, Cursor { at: at + 1 });
     }
-    match groups(trace, at + 1, left - 1) {
+    match groups(&rest[1..all], at + 1, left - 1) {
         NumberRead::Malformed => NumberRead::Malformed,
         NumberRead::Number(high, next) => joined(group - 128, high, next),
     }

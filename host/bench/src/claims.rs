@@ -7,6 +7,8 @@ struct Claim {
     words: &'static str,
     most: f64,
     lane: &'static str,
+    /// Sections that must have a row of it.
+    sections: &'static [&'static str],
     /// Whether it is about a row, by the titles of its section and its own.
     about: fn(&str, &str) -> bool,
 }
@@ -14,86 +16,102 @@ struct Claim {
 const REQUESTS: &str = "TFS: a volume of 2 MiB";
 const LARGEST: &str = "TFS: read and write of 65,024 bytes";
 const LARGEST_LESS: &str = "TFS: read and write of 65,024 bytes, less the check";
+const SHORT: &str = "TFS: read and write of 64 bytes";
 const FEW: &str = "TFS: read and write of few bytes, in a volume of 2 MiB with one file";
 const STORES: &str =
     "TFS: the k-th store of files of 65,024 bytes, in a volume of 2 MiB with one file";
+const MENDS: &str = "TFS: mend of a volume of 2 MiB, by its map";
+const TIMING: &str = "Timing file: a volume of 64 KiB with seven other files";
+const REPLAYS: &str = "Traces: replay on a volume of 2 MiB";
+const ROMFS_1: &str = "romfs: check of images of 1 MiB";
+const ROMFS_16: &str = "romfs: check of images of 16 MiB";
 
 const CLAIMS: [Claim; 12] = [
     Claim {
         words: "A check of 25 largest files takes at most 0.70 of the reference's time",
         most: 0.70,
         lane: "reference",
+        sections: &[REQUESTS],
         about: |section, row| section == REQUESTS && row == "check, 25 largest files",
     },
     Claim {
         words: "A check, free bytes, a list, a create with its remove: at most 1.00 of the reference",
         most: 1.00,
         lane: "reference",
+        sections: &[REQUESTS],
         about: |section, _| section == REQUESTS || section.starts_with("TFS: check of "),
     },
     Claim {
         words: "A create and a remove of 65,024 bytes: at most 1.00 of the reference",
         most: 1.00,
         lane: "reference",
+        sections: &[REQUESTS],
         about: |section, row| {
             section == REQUESTS && row.starts_with("create and remove 65,024 bytes")
         },
     },
     Claim {
-        words: "A read or write of 65,024 bytes, whole and less the check: at most 1.00 of the reference",
+        words: "A read or write of 65,024 bytes, with one file also less the check: at most 1.00 of the reference",
         most: 1.00,
         lane: "reference",
-        about: |section, _| section == LARGEST || section == LARGEST_LESS,
+        sections: &[LARGEST, LARGEST_LESS],
+        about: |section, row| section == LARGEST || section == LARGEST_LESS && !row.ends_with(" files"),
     },
     Claim {
         words: "A read or write of 65,024 bytes in blocks one after another, less the check: at most 1.10 of `memcpy`",
         most: 1.10,
         lane: "copy",
+        sections: &[LARGEST_LESS],
         about: |section, row| section == LARGEST_LESS && !row.ends_with("scattered blocks"),
     },
     Claim {
         words: "A read or write of few bytes: at most 1.00 of the reference",
         most: 1.00,
         lane: "reference",
-        about: |section, _| section == "TFS: read and write of 64 bytes" || section == FEW,
+        sections: &[SHORT, FEW],
+        about: |section, _| section == SHORT || section == FEW,
     },
     Claim {
         words: "A store fetched: at most 1.00 of the reference",
         most: 1.00,
         lane: "reference",
+        sections: &[STORES],
         about: |section, _| section == STORES,
     },
     Claim {
         words: "A mend: at most 1.00 of the reference",
         most: 1.00,
         lane: "reference",
-        about: |section, _| section == "TFS: mend of a volume of 2 MiB, by its map",
+        sections: &[MENDS],
+        about: |section, _| section == MENDS,
     },
     Claim {
         words: "A request on the timing file: at most 1.00 of the reference",
         most: 1.00,
         lane: "reference",
-        about: |section, _| section == "Timing file: a volume of 64 KiB with seven other files",
+        sections: &[TIMING],
+        about: |section, _| section == TIMING,
     },
     Claim {
-        words: "A replay of requests on few bytes: at most 1.00 of the reference",
+        words: "A replay: at most 1.00 of the reference",
         most: 1.00,
         lane: "reference",
-        about: |section, row| {
-            section.starts_with("Traces: replay") && !row.starts_with("write and read 65,024 bytes")
-        },
+        sections: &[REPLAYS],
+        about: |section, _| section == REPLAYS,
     },
     Claim {
         words: "A check of each romfs family at 1 MiB: at most 4 times its plain list",
         most: 4.0,
         lane: "plain list",
-        about: |section, _| section == "romfs: check of images of 1 MiB",
+        sections: &[ROMFS_1],
+        about: |section, _| section == ROMFS_1,
     },
     Claim {
         words: "A check of each romfs family at 16 MiB: at most 40 times its plain list",
         most: 40.0,
         lane: "plain list",
-        about: |section, _| section == "romfs: check of images of 16 MiB",
+        sections: &[ROMFS_16],
+        about: |section, _| section == ROMFS_16,
     },
 ];
 
@@ -127,12 +145,15 @@ fn verdict(claim: &Claim, runs: &Runs) -> (String, String) {
         Ok(judged) => judged,
         Err(cause) => return ("-".to_owned(), format!("**does not hold**: {cause}")),
     };
+    let measured = |section: &&&str| judged.iter().any(|row| row.section.title == **section);
+    let missing = claim.sections.iter().find(|section| !measured(section));
     let worst = judged
         .iter()
         .max_by(|one, other| one.worst().total_cmp(&other.worst()));
-    let Some(worst) = worst else {
+    let (None, Some(worst)) = (missing, worst) else {
         let cause = "**does not hold**: nothing of it is measured";
-        return ("-".to_owned(), cause.to_owned());
+        let of = missing.map(|section| format!(", in \"{section}\""));
+        return ("-".to_owned(), cause.to_owned() + &of.unwrap_or_default());
     };
     let all = runs.idle + runs.loaded;
     let over = |run: &usize| judged.iter().any(|row| row.ratios[*run] > claim.most);
@@ -172,6 +193,7 @@ mod tests {
         words: "half the time",
         most: 0.5,
         lane: "reference",
+        sections: &["s"],
         about: |section, row| section == "s" && row != "other",
     };
 
@@ -219,8 +241,20 @@ mod tests {
     }
 
     #[test]
+    fn a_claim_with_a_section_that_is_not_measured_fails() {
+        let claim = Claim {
+            sections: &["s", "t"],
+            ..CLAIM
+        };
+        let runs = Runs::of(&[run([10.0; 3])], &[]).expect("runs");
+        let expected = "**does not hold**: nothing of it is measured, in \"t\"";
+        assert_eq!(verdict(&claim, &runs).1, expected);
+    }
+
+    #[test]
     fn a_claim_on_a_difference_needs_only_the_one_of_the_reference() {
         let claim = Claim {
+            sections: &["s, less the check"],
             about: |section, _| section == "s, less the check",
             ..CLAIM
         };

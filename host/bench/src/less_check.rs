@@ -29,14 +29,19 @@ pub struct Way {
 pub struct Times {
     /// Of the best round.
     pub whole: f64,
-    /// Less those of the check: the median over all rounds.
+    /// Less those of the check: the mean over all places of the median over the rounds there. One median over all would
+    /// leap where the places are of two kinds.
     pub less_check: f64,
 }
 
 const PAGE: usize = 4096;
 
-/// Where in a page a volume and the buffer begin, each time elsewhere: what a check takes depends on the volume and its
-/// place by more than a count lasts, and what a copy takes on both places, above all on which are multiples of 16.
+/// From a place in a page to the next one.
+const STEP: usize = 520;
+
+/// Where in a page a volume and the buffer begin, each time elsewhere, as the stack does: what a check takes depends on the
+/// volume and on how it lies to the stack by more than a count lasts, and what a copy takes on both places, above all on which
+/// are multiples of 16.
 const PLACES: [(usize, usize); 8] = [
     (0, 0),
     (520, 1560),
@@ -48,7 +53,7 @@ const PLACES: [(usize, usize); 8] = [
     (3640, 3120),
 ];
 
-/// The times of all ways, which share a volume of 2 MiB at most and a buffer, at each place. Each volume is made from
+/// The times of all ways, which share a volume of 2 MiB at most, a buffer and the stack, at each place. Each volume is made from
 /// another seed, which a volume in blocks one after another does not depend on; behind it there may be as much as the buffer holds.
 pub fn times(rounds: usize, ways: &mut [Way], make: impl Fn(u64) -> Vec<u8>) -> Vec<Times> {
     let mut volumes = vec![0; MOST_BLOCKS * BLOCK_SIZE + ROOM + 2 * PAGE];
@@ -61,10 +66,23 @@ pub fn times(rounds: usize, ways: &mut [Way], make: impl Fn(u64) -> Vec<u8>) -> 
         let buffer = at(&mut buffers, of_buffer, ROOM);
         buffer.fill(0x5A);
         assert_same_answers(ways, image, buffer);
-        all.extend(timed(rounds.div_ceil(PLACES.len()), ways, image, buffer));
+        let rounds = rounds.div_ceil(PLACES.len());
+        below(of_volume / STEP, &mut || {
+            all.push(timed(rounds, ways, image, buffer));
+        });
     }
     let lanes = (0..ways.len()).map(|way| lane(&all, way));
     lanes.collect()
+}
+
+/// Runs something below so many frames of the stack, each of a little more than a step.
+fn below(frames: usize, run: &mut dyn FnMut()) {
+    let frame = black_box([0_u8; STEP]);
+    match frames {
+        0 => run(),
+        _ => below(frames - 1, run),
+    }
+    black_box(&frame);
 }
 
 /// So many bytes of a space from a place in a page on.
@@ -95,17 +113,17 @@ fn timed(rounds: usize, ways: &mut [Way], image: &mut [u8], buffer: &mut [u8]) -
     race.run_rounds()
 }
 
-/// The times of one way in all rounds.
-fn lane(rounds: &[Vec<f64>], way: usize) -> Times {
-    let both = rounds.iter().map(|round| round.as_chunks().0[way]);
-    let whole = both.clone().map(|[whole, _]| whole);
+/// The times of one way in all rounds at all places.
+fn lane(places: &[Vec<Vec<f64>>], way: usize) -> Times {
+    let of = |round: &Vec<f64>| round.as_chunks::<2>().0[way];
+    let whole = places.iter().flatten().map(|round| of(round)[0]);
+    let less = |rounds: &Vec<Vec<f64>>| {
+        let differences = rounds.iter().map(of).map(|[whole, check]| whole - check);
+        median(&differences.collect::<Vec<f64>>())
+    };
     Times {
         whole: whole.fold(f64::INFINITY, f64::min),
-        less_check: median(
-            &both
-                .map(|[whole, check]| whole - check)
-                .collect::<Vec<f64>>(),
-        ),
+        less_check: places.iter().map(less).sum::<f64>() / places.len() as f64,
     }
 }
 
@@ -147,22 +165,36 @@ mod tests {
     #[test]
     fn all_ways_share_a_volume_and_a_buffer_at_each_place() {
         let met = Rc::new(RefCell::new(BTreeSet::new()));
-        let mut ways = [met.clone(), met.clone()].map(|met| Way {
+        let stacks = Rc::new(RefCell::new(BTreeSet::new()));
+        let both = || (met.clone(), stacks.clone());
+        let mut ways = [both(), both()].map(|(met, stacks)| Way {
             name: "way",
             request: Box::new(move |image, buffer| {
                 let places = (image.as_ptr().addr(), buffer.as_ptr().addr());
                 met.borrow_mut().insert(places);
+                let local = 0_u8;
+                stacks.borrow_mut().insert((&raw const local).addr() % PAGE);
                 0
             }),
             check: None,
         });
         times(1, &mut ways, |_| vec![0; BLOCK_SIZE]);
+        assert!(stacks.take().len() >= PLACES.len());
         let met = met.take();
         assert_eq!(met.len(), PLACES.len());
         let within = met
             .iter()
             .map(|(image, buffer)| (image % PAGE, buffer % PAGE));
         assert_eq!(within.collect::<BTreeSet<_>>(), PLACES.into());
+    }
+
+    #[test]
+    fn less_the_check_is_the_mean_over_the_places_of_their_medians() {
+        let rounds =
+            |differences: [f64; 3]| differences.map(|less| vec![0.0, 0.0, 9.0 + less, 9.0]);
+        let places = [[1.0, 2.0, 90.0], [5.0, 4.0, 0.0]].map(|place| rounds(place).to_vec());
+        let times = lane(&places, 1);
+        assert_eq!((times.whole, times.less_check), (9.0, 3.0));
     }
 
     #[test]

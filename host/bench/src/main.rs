@@ -8,7 +8,7 @@
 //!
 //! The first makes a run and prints its tables in Markdown, or with --rows a line for each time: section, row, lane and
 //! nanoseconds with tabs between. Each time is the best of R rounds (2000 unless given, fewer where one lasts long), in which
-//! the proved request, the reference and what else is timed beside them take turns; less the check it is the median. The
+//! the proved request, the reference and what else is timed beside them take turns; less the check it is a median. The
 //! others print the claims and the tables of all runs whose lines are in the files idle-* and loaded-* of a folder, and draw
 //! the pictures. Nothing passes or fails by time.
 

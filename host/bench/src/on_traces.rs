@@ -195,13 +195,13 @@ fn read(rounds: usize, record: &Record<'_>) -> Vec<f64> {
     let trace = write_all(&[*record]).expect("a trace");
     Race::new(rounds)
         .lane(|| {
-            let (record, next) = proved::trace::read(black_box(&trace), 0).expect("a record");
-            black_box(record);
-            next
+            let record = proved::c::trace::read(black_box(&trace), 0);
+            assert_ne!(black_box(&record).entry.kind, 0);
+            record.next
         })
         .lane(|| {
             let (record, next) = trace::read(black_box(&trace), 0).expect("a record");
-            black_box(record);
+            black_box(&record);
             next
         })
         .run()

@@ -1,28 +1,29 @@
--- `mend` meets its contract: nothing is done to a consistent volume, any other goes by its fault.
-use mathlib.Core.Path.{sym, ap, _∙_}
+-- `mend` meets its contract: the verdict on the mended volume, as an answer.
+use mathlib.Core.Path.{sym, ap, subst, _∙_}
 use denote.Ref.{now}
 use borrow.Author.Needs.{needs}
 use Rattle.tfs_spec.specs.Requests.{Outcome}
-use Rattle.tfs_facts.specs.Sizes.{size-512}
-use Rattle.tfs_facts.specs.CheckMeans.{check-means}
-use Rattle.tfs_facts.specs.Mends.{sound-mend}
-use Rattle.tfs.specs.Told.{checkTold}
-use Rattle.tfs.specs.Passed.{fault-fits}
+use Rattle.tfs_check.specs.Told.{verdictTold, VerdictFits}
+use Rattle.tfs_facts.specs.Mends.{mend-is}
+use Rattle.tfs.specs.Passed.{answer-told}
 use Rattle.tfs.proofs.mend.Statement.{statement}
 use Rattle.tfs.proofs.mend.Tie as tie
 
-mend-faulty-requires : tie.Need-mend-faulty-requires
-mend-faulty-requires c κs =
-    let found = c .before .before in
-    let call = found .before .before .check in
-    let f = found .f .given in
-    (ap checkTold (sym (f .1)) ∙ call .ensures .0, fault-fits (call .result) (f .0 .0) (f .1) (call .ensures .1))
-
 returns : tie.Need-returns
 returns c =
-    let img = now (c .before .before .before .before .before .args .image) in
-    let e = sound-mend 512 size-512 img (check-means 512 size-512 img .0 (sym (c .before .before .check .ensures .0) ∙ ap checkTold (c .enum-told .given .1))) in
-    (ap (λ (o : Outcome). o .answer) (sym e), ap (λ (o : Outcome). o .image) (sym e), tt)
+    let called = c .before .before .before .before in
+    let img = now (called .before .before .before .args .image) in
+    (sym (ap (λ (o : Outcome). o .answer) (mend-is 512 img _ (sym (called .mend .ensures .0) ∙ ap verdictTold (c .enum-told .given .1)))), called .mend .ensures .1, tt)
+
+returns-2 : tie.Need-returns-2
+returns-2 c =
+    let rule = c .before .before in
+    let called = rule .before .before .before .before in
+    let img = now (called .before .before .before .args .image) in (
+      answer-told (c .fault-of .result) _ _ (c .fault-of .ensures .0) ∙ sym (ap (λ (o : Outcome). o .answer) (mend-is 512 img _ (sym (called .mend .ensures .0) ∙ ap verdictTold (rule .rule .given .1)))),
+      called .mend .ensures .1,
+      c .fault-of .ensures .1,
+    )
 
 pub mend-spec : {M : Type 1} → statement M
 mend-spec =
@@ -31,8 +32,8 @@ mend-spec =
     (λ c κs. search needs)
     (λ c. search needs)
     (λ c. search needs)
-    mend-faulty-requires
+    (λ c κs. subst VerdictFits (c .before .rule .given .1) (c .before .before .before .before .before .mend .ensures .2))
     (λ c. search needs)
     returns
     (λ c. search needs)
-    (λ c. search needs))
+    returns-2)

@@ -1,44 +1,36 @@
--- `same_long` meets its contract: a difference so far, or the bytes from index i on decide.
-use mathlib.Core.Path.{_≡_, refl}
-use mathlib.Core.Logic.{⊎-elim}
+-- `same_long` meets its contract: the first i bytes are the same, so that the rest decides.
+use mathlib.Core.Path.{_≡_, refl, _∙_}
 use mathlib.Core.Bool.{_&&_}
-use Prim.Native.Nat.{_≤_, _-_}
+use Prim.Native.Nat.{_≤_, _+_, _-_}
+use native.Mathlib.Nat.{add-sub-cancel-left}
+use native.Mathlib.Omega.{arith}
 use lib.ListN.{length, drop}
-use lib.Dec.{eqb}
 use denote.Ref.{now}
 use Rattle.lists.specs.Lists.{sameList}
-use Rattle.spans.specs.Same.{long-not, long-more, long-end}
+use Rattle.spans.specs.Same.{same-next, same-last}
+use borrow.Author.Tests.{not-true, not-false}
 use borrow.Author.Needs.{needs}
 use Rattle.spans.proofs.search.same_long.Statement.{statement}
 use Rattle.spans.proofs.search.same_long.Tie as tie
 
 abbrev Inv-loop : tie.InvT-loop
-Inv-loop a b differ₀ i₀ differ i = (i ≤ length a) × (length a ≡ length b) × ((eqb differ 0 && sameList (drop i a) (drop i b)) ≡ sameList a b)
+Inv-loop a b n i₀ i = (i ≤ length a) × (length a ≡ length b) × (sameList (drop i a) (drop i b) ≡ sameList a b)
 
 abbrev μ-loop : tie.MeasureT-loop
-μ-loop a b differ₀ i₀ differ i = length a - i
+μ-loop a b n i₀ i = length a - i
 
-loop-holds : tie.Need-loop-holds Inv-loop μ-loop
-loop-holds c = (search needs, search needs, refl)
-
-loop-again : tie.Need-loop-again Inv-loop μ-loop
-loop-again c =
+-- the next 512 bytes, then the rest
+turn : (c : tie.After-same-all Inv-loop μ-loop) → (c .same-all .result && sameList (drop (c .before .before .before .before .loop .i + 512) (now (c .before .before .before .before .before .before .before .args .a))) (drop (c .before .before .before .before .loop .i + 512) (now (c .before .before .before .before .before .before .before .args .b)))) ≡ sameList (now (c .before .before .before .before .before .before .before .args .a)) (now (c .before .before .before .before .before .before .before .args .b))
+turn c =
     let at-loop = c .before .before .before .before .loop in
-    let a = now (c .before .before .before .before .before .args .a) in
-    let b = now (c .before .before .before .before .before .args .b) in (
-      search needs,
-      search needs,
-      ⊎-elim
-          (λ w. rw (w .1) (long-not a b (at-loop .i) (search needs) (search needs) (eqb (at-loop .differ) 0) (w .0 .taken) (at-loop .inv .2)))
-          (λ w. rw (w .1) (long-more a b (at-loop .i) (search needs) (search needs) (eqb (at-loop .differ) 0) (w .0 .left) (at-loop .inv .2)))
-          (c .if1 .came),
-    )
+    let args = c .before .before .before .before .before .before .before .args in
+    same-next (now (args .a)) (now (args .b)) (at-loop .i) 512 _ (c .same-all .result) (add-sub-cancel-left (at-loop .i) 512) (c .same-all .ensures) (omega arith) (omega arith) ∙ at-loop .inv .2
 
-returns : tie.Need-returns Inv-loop μ-loop
-returns c =
-    let at-loop = c .before .loop in
-    let args = c .before .before .args in
-    long-end (now (args .a)) (now (args .b)) (at-loop .i) (c .loop-test .left) (search needs) (eqb (at-loop .differ) 0) (at-loop .inv .2)
+returns-2 : tie.Need-returns-2 Inv-loop μ-loop
+returns-2 c =
+    let at-loop = c .before .before .before .before .loop in
+    let args = c .before .before .before .before .before .before .before .args in
+    same-last (now (args .a)) (now (args .b)) (at-loop .i) (length (now (args .a)) - at-loop .i) _ (c .same-all2 .result) refl (c .same-all2 .ensures) (omega arith) (omega arith) ∙ at-loop .inv .2
 
 pub same-long-spec : {M : Type 1} → statement M
 same-long-spec =
@@ -46,10 +38,24 @@ same-long-spec =
     (tie.spec
     Inv-loop
     μ-loop
-    loop-holds
+    (λ c. (search needs, search needs, refl))
     (λ c. search needs)
     (λ c. search needs)
     (λ c. search needs)
     (λ c. search needs)
-    loop-again
-    returns)
+    (λ c. search needs)
+    (λ c. search needs)
+    (λ c. search needs)
+    (λ c. search needs)
+    (λ c κs. search needs)
+    (λ c. rw (not-true (c .before .same-all .result) (c .if1 .taken)) at (turn (c .before)))
+    (λ c. search needs)
+    (λ c. (search needs, search needs, rw (not-false (c .before .same-all .result) (c .if1 .left)) at (turn (c .before))))
+    (λ c. search needs)
+    (λ c. search needs)
+    (λ c. search needs)
+    (λ c. search needs)
+    (λ c. search needs)
+    (λ c. search needs)
+    (λ c κs. search needs)
+    returns-2)

@@ -1,44 +1,33 @@
--- `same_words` meets its contract: the words before k are the same.
-use mathlib.Core.Path.{sym, ap, _∙_}
-use mathlib.Core.Bool.{not}
-use Prim.Native.Nat.{_≤_, _-_}
-use borrow.Author.Count.{below-none, below-more}
-use Rattle.list_laws.specs.Least.{Below, found, none-found}
-use Rattle.spans.specs.Alike.{wordDiffers}
+-- `same_words` meets its contract: all bytes are the same, or the words are looked at one by one.
+use mathlib.Core.Path.{sym, _∙_}
+use Prim.Native.Nat.{_-_, _*_}
+use native.Mathlib.Omega.{arith}
+use lib.ListN.{length-take}
+use denote.Ref.{now}
+use Rattle.list_laws.specs.Least.{none-found}
+use Rattle.spans.specs.Alike.{wordDiffers, words-same}
 use borrow.Author.Needs.{needs}
 use Rattle.spans.proofs.words.same_words.Statement.{statement}
 use Rattle.spans.proofs.words.same_words.Tie as tie
 
-abbrev Inv-loop : tie.InvT-loop
-Inv-loop p q n k₀ k = (k ≤ n) × Below (wordDiffers p q) k
-
-abbrev μ-loop : tie.MeasureT-loop
-μ-loop p q n k₀ k = n - k
-
-loop-holds : tie.Need-loop-holds Inv-loop μ-loop
-loop-holds c = (search needs, below-none _)
-
-returns : tie.Need-returns Inv-loop μ-loop
-unfolding wordDiffers
-returns c = found _ _ _ (search needs) (c .before .before .before .loop .inv .1) (ap not (sym (c .before .word-same .ensures)) ∙ c .if1 .taken)
-
-loop-again : tie.Need-loop-again Inv-loop μ-loop
-unfolding wordDiffers
-loop-again c = (search needs, below-more _ _ (c .before .before .before .loop .inv .1) (ap not (sym (c .before .word-same .ensures)) ∙ c .if1 .left))
-
-returns-2 : tie.Need-returns-2 Inv-loop μ-loop
-returns-2 c = none-found _ _ _ (c .before .loop .inv .0) (c .loop-test .left) (c .before .loop .inv .1)
+returns : tie.Need-returns
+returns c =
+    let args = c .before .before .before .before .before .before .args in
+    none-found _ _ _ (omega arith) (omega arith)
+    (words-same (now (args .p)) (now (args .q)) (args .n) (4 * args .n - 0) (omega arith) (sym (c .before .same-long .ensures) ∙ c .if1 .taken))
 
 pub same-words-spec : {M : Type 1} → statement M
 same-words-spec =
     tie.close
     (tie.spec
-    Inv-loop
-    μ-loop
-    loop-holds
-    (λ c κs. search needs)
+    (λ c. search needs)
+    (λ c. search needs)
+    (λ c. search needs)
+    (λ c. search needs)
+    (λ c. search needs)
+    (λ c. search needs)
+    (λ c. search needs)
+    (λ c κs. simp length-take (omega arith))
     returns
-    (λ c. search needs)
-    (λ c. search needs)
-    loop-again
-    returns-2)
+    (λ c κs. search needs)
+    (λ c. search needs))

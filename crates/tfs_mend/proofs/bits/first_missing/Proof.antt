@@ -1,10 +1,10 @@
 -- `first_missing` meets its contract: no bit before k is missing.
-use Prim.Native.Nat.{_-_, _/_, _≤_}
+use Prim.Native.Nat.{_-_, _≤_}
 use native.Mathlib.Omega.{arith}
 use denote.Ref.{now}
 use borrow.Author.Count.{below-more}
-use Rattle.list_laws.specs.Least.{Below, found, none-found, least-le}
-use Rattle.tfs_mend.specs.Missing.{wordLacks, isMissing, words-held}
+use Rattle.list_laws.specs.Least.{Below, found, none-found}
+use Rattle.tfs_mend.specs.Missing.{isMissing}
 use borrow.Author.Needs.{needs}
 use Rattle.tfs_mend.proofs.bits.first_missing.Statement.{statement}
 use Rattle.tfs_mend.proofs.bits.first_missing.Tie as tie
@@ -14,19 +14,6 @@ Inv-loop map owned n words k₀ k = (k ≤ 4096) × Below (isMissing map owned) 
 
 abbrev μ-loop : tie.MeasureT-loop
 μ-loop map owned n words k₀ k = n - k
-
--- no more words than the bits fill
-few : (c : tie.After-first-lacking Inv-loop μ-loop) → c .first-lacking .result ≤ 128
-few c =
-    let args = c .before .before .before .args in
-    omega (arith, c .first-lacking .ensures, least-le (wordLacks (now (args .map)) (now (args .owned))) (args .n / 32))
-
-loop-holds : tie.Need-loop-holds Inv-loop μ-loop
-loop-holds c =
-    let args = c .before .before .before .args in
-    let known = c .before .before .shared-slice-known .given in
-    let own = c .before .shared-slice-known2 .given in
-    (omega (arith, few c), words-held (now (args .map)) (now (args .owned)) (λ i. known i .fits) (λ i. own i .fits) (args .n / 32) (c .first-lacking .result) (c .first-lacking .ensures))
 
 returns : tie.Need-returns Inv-loop μ-loop
 returns c = found _ _ _ (search needs) (c .before .before .before .loop .inv .1) (cc)
@@ -46,8 +33,8 @@ first-missing-spec =
     Inv-loop
     μ-loop
     (λ c κs. search needs)
-    (λ c. omega (arith, few c))
-    loop-holds
+    (λ c. omega (arith, c .held-words .ensures .0))
+    (λ c. (omega (arith, c .held-words .ensures .0), c .held-words .ensures .1))
     (λ c κs. search needs)
     returns
     (λ c. search needs)

@@ -26,6 +26,7 @@ returns c =
       run .ensures .2,
       read-run (now (args .image)) (now (args .ino)) (now (args .buf)) (copied .last .0) (args .p) (run .result .at) (run .result .len) _
           (run .ensures .0) (run .ensures .4) (inside found) (add-sub-cancel-left (run .result .at) (run .result .len)) (copied .ensures),
+      run .ensures .5,
     )
 
 pub read-run-spec : {M : Type 1} → statement M

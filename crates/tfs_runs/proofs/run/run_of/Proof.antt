@@ -15,21 +15,23 @@ first c = c .pre .3 (c .args .p / 512) (omega arith)
 
 straight-requires : tie.Need-straight-requires
 straight-requires c κs =
-    let start = c .before .before .before in
-    (search needs, omega arith, omega arith, λ k l. start .pre .3 k (omega arith), c .before .block-number .ensures, refl)
+    let start = c .before .before in
+    (search needs, omega arith, omega arith, λ k l. start .pre .3 k (omega arith), start .pre .4, refl)
 
 returns : tie.Need-returns
 unfolding at
-returns c = (rw (c .before .before .block-number .ensures), search needs, omega arith, omega arith, c .straight .ensures .2)
+returns c = (rw (c .before .before .before .before .pre .4), search needs, omega arith, omega arith, c .before .straight .ensures .2, c .number-at .ensures)
 
 pub run-of-spec : {M : Type 1} → statement M
 run-of-spec =
     tie.close
     (tie.spec
-    (λ c κs. (search needs, omega arith, first (c .before)))
     (λ c. search needs)
     (λ c κs. search needs)
     straight-requires
-    (λ c. omega (arith, first (c .before .before .before .before)))
-    (λ c. omega (arith, first (c .before .before .before .before)))
+    (λ c. omega (arith, first (c .before .before .before)))
+    (λ c. omega (arith, first (c .before .before .before)))
+    (λ c. search needs)
+    (λ c. search needs)
+    (λ c κs. search needs)
     returns)

@@ -8,7 +8,7 @@ use native.Mathlib.Omega.{arith}
 use lib.ListN.{length, getD}
 use denote.Ref.{now}
 use Rattle.lists.specs.Lists.{sameList, table}
-use Rattle.tfs_runs.specs.Place.{at, run-inside}
+use Rattle.tfs_runs.specs.Place.{at, Numbered, numbered-start, numbered-more, run-inside}
 use Rattle.tfs_runs.specs.Same.{SameFrom, same-turn, same-start, same-end}
 use borrow.Author.Tests.{not-true, not-false}
 use borrow.Author.Needs.{needs}
@@ -19,13 +19,13 @@ abbrev byte : List ℕ → List ℕ → ℕ → ℕ
 byte image ino p = getD image (at ino p) 0
 
 abbrev Inv-loop : tie.InvT-loop
-Inv-loop image ino offset bytes len done₀ done = (done ≤ length bytes) × (sameList bytes (table (byte image ino) offset (length bytes)) ≡ SameFrom (byte image ino) offset bytes done)
+Inv-loop image ino offset bytes len b₀ done₀ b done = (done ≤ length bytes) × (sameList bytes (table (byte image ino) offset (length bytes)) ≡ SameFrom (byte image ino) offset bytes done) × Numbered ino (offset + done) (offset + length bytes) b
 
 abbrev μ-loop : tie.MeasureT-loop
-μ-loop image ino offset bytes len done₀ done = length bytes - done
+μ-loop image ino offset bytes len b₀ done₀ b done = length bytes - done
 
 abbrev start : tie.After-run-of Inv-loop μ-loop → tie.Start Inv-loop μ-loop
-start c = c .before .before .before .before .before .before
+start c = c .before .before .before .before .before .before .before
 
 abbrev bytes-of : tie.Start Inv-loop μ-loop → ℕ → ℕ
 bytes-of c = byte (now (c .args .image)) (now (c .args .ino))
@@ -49,17 +49,30 @@ turn c =
     (run .ensures .0) (run .ensures .4) (inside found) (omega arith) (add-sub-cancel-left (at-loop .done) (run .result .len)) (add-sub-cancel-left (run .result .at) (run .result .len)) (c .same-long .ensures)
 
 run-of-requires : tie.Need-run-of-requires Inv-loop μ-loop
-run-of-requires c κs = let start = c .before .before .before .before .before in (search needs, search needs, omega arith, λ k l. start .pre .1 k (omega arith))
+run-of-requires c κs = let start = c .before .before .before .before .before .before in (search needs, search needs, omega arith, λ k l. start .pre .1 k (omega arith), c .before .loop .inv .2 (omega arith))
 
 loop-holds : tie.Need-loop-holds Inv-loop μ-loop
 loop-holds c =
-    let args = c .before .before .before .args in
-    (search needs, sym (same-start (byte (now (args .image)) (now (args .ino))) (args .offset) (now (args .bytes))))
+    let args = c .before .before .before .before .args in (
+      search needs,
+      sym (same-start (byte (now (args .image)) (now (args .ino))) (args .offset) (now (args .bytes))),
+      numbered-start (now (args .ino)) (args .offset) (args .offset + length (now (args .bytes))) (c .number-at .result) (c .number-at .ensures),
+    )
+
+loop-again : tie.Need-loop-again Inv-loop μ-loop
+loop-again c =
+    let found = c .before .before .before .before in
+    let at-loop = found .before .before .loop in
+    let run = found .run-of in
+    let args = start found .args in
+    let len = length (now (args .bytes)) in
+    let next = numbered-more (now (args .ino)) (args .offset) (at-loop .done) (run .result .len) len (len - at-loop .done) (run .result .next) (omega arith) (run .ensures .5) in
+    (omega arith, rw (not-false (c .before .same-long .result) (c .if1 .left)) at (turn (c .before)), next)
 
 returns-2 : tie.Need-returns-2 Inv-loop μ-loop
 returns-2 c =
     let at-loop = c .before .loop in
-    let args = c .before .before .before .before .before .args in
+    let args = c .before .before .before .before .before .before .args in
     same-end (byte (now (args .image)) (now (args .ino))) (args .offset) (at-loop .done) (now (args .bytes)) (c .loop-test .left) ∙ sym (at-loop .inv .1)
 
 pub same-runs-spec : {M : Type 1} → statement M
@@ -68,6 +81,8 @@ same-runs-spec =
     (tie.spec
     Inv-loop
     μ-loop
+    (λ c. search needs)
+    (λ c κs. search needs)
     loop-holds
     (λ c. search needs)
     (λ c. search needs)
@@ -83,5 +98,5 @@ same-runs-spec =
     (λ c κs. search needs)
     (λ c. sym (rw (not-true (c .before .same-long .result) (c .if1 .taken)) at (turn (c .before))))
     (λ c. omega arith)
-    (λ c. (omega arith, rw (not-false (c .before .same-long .result) (c .if1 .left)) at (turn (c .before))))
+    loop-again
     returns-2)

@@ -26,6 +26,7 @@ returns c =
       run .ensures .2,
       write-run (now (args .image)) (now (args .ino)) (now (args .src)) (copied .last .0) (args .p) (run .result .at) (run .result .len) _
           (run .ensures .0) (run .ensures .4) (inside found) (run .ensures .2) (add-sub-cancel-left (run .result .at) (run .result .len)) (copied .ensures),
+      run .ensures .5,
     )
 
 pub write-run-spec : {M : Type 1} → statement M

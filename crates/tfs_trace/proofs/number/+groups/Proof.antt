@@ -1,5 +1,5 @@
 -- `groups` meets its contract: by what stands at the position, and by the groups above; left falls.
-use mathlib.Core.Path.{sym, _∙_}
+use mathlib.Core.Path.{refl, sym, _∙_}
 use Prim.Native.Nat.{ℕ, _<_}
 use borrow.Author.Needs.{needs}
 use borrow.Fn.Kinds.{In}
@@ -30,29 +30,29 @@ abbrev groups-calls : ℕ → groups-lts.Claims
 groups-calls t = (wide-reads.Asked, wide-reads.Learnt, groups-below t, groups.Post, joined-reads.Asked, joined-reads.Learnt)
 
 groups-returns : (t : ℕ) → groups-lts.Need-returns (groups-calls t) (groups-at t) groups.Post
-groups-returns t c = (sym (laws.groups-none _ _ _ (c .if1 .taken)), tt)
+groups-returns t c = sym (laws.groups-none _ _ _ (c .if1 .taken))
 
 groups-returns-2 : (t : ℕ) → groups-lts.Need-returns-2 (groups-calls t) (groups-at t) groups.Post
-groups-returns-2 t c = (sym (laws.groups-past _ _ _ (c .if2 .taken)), tt)
+groups-returns-2 t c = sym (laws.groups-nil _ _ _ (c .if2 .taken))
 
 groups-returns-3 : (t : ℕ) → groups-lts.Need-returns-3 (groups-calls t) (groups-at t) groups.Post
 groups-returns-3 t c =
     let read = c .before .before .before in
-    (sym (laws.groups-last _ _ _ _ (read .before .if1 .left) (read .if2 .left) (c .before .wide .ensures .0) (c .if3 .taken)), (omega arith, omega arith))
+    sym (laws.groups-last _ _ _ _ (read .before .if1 .left) (omega arith) (c .before .wide .ensures .0) (c .if3 .taken))
 
 groups-returns-4 : (t : ℕ) → groups-lts.Need-returns-4 (groups-calls t) (groups-at t) groups.Post
 groups-returns-4 t c =
-    let more = c .before .before .before in
+    let more = c .before .before .before .before in
     let read = more .before .before .before in
-    (sym (laws.groups-more _ _ _ _ (read .before .if1 .left) (read .if2 .left) (more .before .wide .ensures .0) (more .if3 .left) ∙ after numberTold (joinGroups _) (c .before .before .groups .ensures .0) (c .enum-told .given .1)), tt)
+    sym (laws.groups-more _ _ _ _ _ (read .before .if1 .left) (omega arith) (more .before .wide .ensures .0) (more .if3 .left) refl ∙ after numberTold (joinGroups _) (c .before .before .groups .ensures) (c .enum-told .given .1))
 
 groups-returns-5 : (t : ℕ) → groups-lts.Need-returns-5 (groups-calls t) (groups-at t) groups.Post
 groups-returns-5 t c =
     let known = c .before .before in
-    let more = known .before .before .before in
+    let more = known .before .before .before .before in
     let read = more .before .before .before in
-    let e = c .joined .ensures ∙ sym (laws.groups-more _ _ _ _ (read .before .if1 .left) (read .if2 .left) (more .before .wide .ensures .0) (more .if3 .left) ∙ after numberTold (joinGroups _) (known .before .before .groups .ensures .0) (known .high .given .1)) in
-    (e, laws.groups-fit (c .joined .result) _ _ _ e)
+    c .joined .ensures
+    ∙ sym (laws.groups-more _ _ _ _ _ (read .before .if1 .left) (omega arith) (more .before .wide .ensures .0) (more .if3 .left) refl ∙ after numberTold (joinGroups _) (known .before .before .groups .ensures) (known .high .given .1))
 
 pub +groups-spec : {M : Type 1} → statement M
 +groups-spec = close μ-groups λ t. groups-lts.spec (groups-calls t) (groups-at t) groups.Post
@@ -62,6 +62,9 @@ pub +groups-spec : {M : Type 1} → statement M
     (λ c κs. search needs)
     (λ c. search needs)
     (groups-returns-3 t)
+    (λ c. search needs)
+    (λ c. search needs)
+    (λ c. search needs)
     (λ c. search needs)
     (λ c. search needs)
     (λ c κs. search needs)
