@@ -1,17 +1,21 @@
 // Runs images that genromfs made through the romfs requests: each is accepted or refused as expected, and each path of the input
 // leads to the expected header, entry and content. host/romfs_images.sh makes the input and says what its form is.
+#![tactic(auto)]
+
 use packed::lines::{number, text, totals};
 use romfs::{CheckAnswer, ContentAnswer, EntryAnswer, Fault, FindAnswer};
+use std::io;
+use std::io::Read;
 
 // A refusal with its place.
-#[derive(Drop)]
+#[derive(Clone, Copy)]
 struct Verdict {
     refusal: u32,
     place: u32,
 }
 
 // Where a path has led: the refusal of the last find, or the header and the length of its name.
-#[derive(Drop)]
+#[derive(Clone, Copy)]
 struct Place {
     refusal: u32,
     at: u32,
@@ -92,147 +96,160 @@ fn right_length(a: ContentAnswer, file_type: u32, size: u32) -> bool {
 // ---- lookups
 
 // Whether something of lookup number k is right. If not, the name of it is printed.
-fn right(k: u32, what: &[u8], holds: bool) -> bool {
+fn right(rt: &impl Print, k: u32, what: &[u8], holds: bool) -> io::Result<bool> {
     if !holds {
-        number(b"\n  lookup ", k);
-        text(what);
+        number(rt, b"\n  lookup ", k)?;
+        text(rt, what)?;
     }
-    holds
+    Ok(holds)
 }
 
 // Whether two numbers are the same. If not, they are printed.
-fn same(k: u32, what: &[u8], want: u32, got: u32) -> bool {
-    if !right(k, what, want == got) {
-        number(b" is not ", want);
-        number(b" but ", got);
+fn same(rt: &impl Print, k: u32, what: &[u8], want: u32, got: u32) -> io::Result<bool> {
+    if !right(rt, k, what, want == got)? {
+        number(rt, b" is not ", want)?;
+        number(rt, b" but ", got)?;
     }
-    want == got
+    Ok(want == got)
 }
 
 // One name further on a path. The name is read in any case.
-fn step(image: &[u8], from: Place) -> Place {
-    let mut space = io::buffer();
-    let n = packed::bytes(&mut space);
+fn step<R: Read>(input: &mut R, image: &[u8], from: Place) -> io::Result<Place> {
+    let mut space = [0u8; 4096];
+    let n = packed::bytes(input, &mut space)?;
     if from.refusal != 0 {
-        return from;
+        return Ok(from);
     }
-    of_find(romfs::find(image, from.at, &space[0..n]), n as u32)
+    Ok(of_find(romfs::find(image, from.at, &space[0..n]), n as u32))
 }
 
 // So many names from the root on.
-fn walk(image: &[u8], names: u32) -> Place {
+fn walk<R: Read>(input: &mut R, image: &[u8], names: u32) -> io::Result<Place> {
     let mut place = refused(0);
     let mut k: u32 = 0;
     while k < names {
-        place = step(image, place);
+        place = step(input, image, place)?;
         k += 1;
     }
-    place
+    Ok(place)
 }
 
 // The entry that a lookup is to find; the length of its name is that of the last name of the path.
-fn expected(name_length: u32) -> [u32; 6] {
-    let file_type = packed::number();
-    let executable = packed::number();
-    let info = packed::number();
-    let size = packed::number();
-    let next = packed::number();
-    [file_type, executable, info, size, next, name_length]
+fn expected<R: Read>(input: &mut R, name_length: u32) -> io::Result<[u32; 6]> {
+    let file_type = packed::number(input)?;
+    let executable = packed::number(input)?;
+    let info = packed::number(input)?;
+    let size = packed::number(input)?;
+    let next = packed::number(input)?;
+    Ok([file_type, executable, info, size, next, name_length])
 }
 
-fn same_entry(k: u32, want: [u32; 6], got: [u32; 6]) -> bool {
-    same(k, b": the type", want[0], got[0])
-        && same(k, b": executable", want[1], got[1])
-        && same(k, b": spec.info", want[2], got[2])
-        && same(k, b": the size", want[3], got[3])
-        && same(k, b": the next header", want[4], got[4])
-        && same(k, b": the length of the name", want[5], got[5])
+fn same_entry(rt: &impl Print, k: u32, want: [u32; 6], got: [u32; 6]) -> io::Result<bool> {
+    let same = same(rt, k, b": the type", want[0], got[0])?
+        && same(rt, k, b": executable", want[1], got[1])?
+        && same(rt, k, b": spec.info", want[2], got[2])?
+        && same(rt, k, b": the size", want[3], got[3])?
+        && same(rt, k, b": the next header", want[4], got[4])?
+        && same(rt, k, b": the length of the name", want[5], got[5])?;
+    Ok(same)
 }
 
-fn same_content(k: u32, image: &[u8], at: u32, file_type: u32, size: u32, content: &[u8]) -> bool {
+fn same_content(
+    rt: &impl Print,
+    k: u32,
+    image: &[u8],
+    at: u32,
+    file_type: u32,
+    size: u32,
+    content: &[u8],
+) -> io::Result<bool> {
     let length = right_length(romfs::content_length(image, at), file_type, size);
     let bytes = spans::search::same(romfs::content(image, at), content);
-    right(k, b": the length of the content differs", length)
-        && right(k, b": the content differs", bytes)
+    let same = right(rt, k, b": the length of the content differs", length)?
+        && right(rt, k, b": the content differs", bytes)?;
+    Ok(same)
 }
 
 // Lookup number k: whether it comes out as expected.
-fn lookup(k: u32, image: &[u8]) -> bool {
-    let names = packed::number();
-    let place = walk(image, names);
-    let refusal = packed::number();
-    let at = packed::number();
-    let want = expected(place.name_length);
-    let mut space = io::large_buffer();
-    let n = packed::bytes(&mut space);
-    if !same(k, b": the refusal", refusal, place.refusal)
-        || !same(k, b": the header", at, place.at)
+fn lookup<R: Read>(rt: &impl Print, input: &mut R, k: u32, image: &[u8]) -> io::Result<bool> {
+    let names = packed::number(input)?;
+    let place = walk(input, image, names)?;
+    let refusal = packed::number(input)?;
+    let at = packed::number(input)?;
+    let want = expected(input, place.name_length)?;
+    let mut space = [0u8; 65536];
+    let n = packed::bytes(input, &mut space)?;
+    if !same(rt, k, b": the refusal", refusal, place.refusal)?
+        || !same(rt, k, b": the header", at, place.at)?
     {
-        return false;
+        return Ok(false);
     }
-    refusal != 0
-        || same_entry(k, want, of_entry(romfs::entry(image, at)))
-            && same_content(k, image, at, want[0], want[3], &space[0..n])
+    let right = refusal != 0
+        || same_entry(rt, k, want, of_entry(romfs::entry(image, at)))?
+            && same_content(rt, k, image, at, want[0], want[3], &space[0..n])?;
+    Ok(right)
 }
 
 // So many lookups: how many differ.
-fn lookups(count: u32, image: &[u8]) -> u32 {
+fn lookups<R: Read>(rt: &impl Print, input: &mut R, count: u32, image: &[u8]) -> io::Result<u32> {
     let mut differ: u32 = 0;
     let mut k: u32 = 0;
     while k < count {
         k += 1;
-        if !lookup(k, image) {
+        if !lookup(rt, input, k, image)? {
             differ += 1;
         }
     }
-    differ
+    Ok(differ)
 }
 
 // ---- images
 
 // Whether the check gives the expected verdict, which is printed.
-fn judged(image: &[u8]) -> bool {
+fn judged<R: Read>(rt: &impl Print, input: &mut R, image: &[u8]) -> io::Result<bool> {
     let got = of_check(romfs::check(image));
     if got.refusal == 0 {
-        text(b": accepted");
+        text(rt, b": accepted")?;
     } else {
-        number(b": refused ", got.refusal);
-        number(b", place ", got.place);
+        number(rt, b": refused ", got.refusal)?;
+        number(rt, b", place ", got.place)?;
     }
-    let refusal = packed::number();
-    let place = packed::number();
-    refusal == got.refusal && place == got.place
+    let refusal = packed::number(input)?;
+    let place = packed::number(input)?;
+    Ok(refusal == got.refusal && place == got.place)
 }
 
 // The next image: whether all of it comes out as expected.
-fn one() -> bool {
-    let mut name = io::buffer();
-    let a = packed::bytes(&mut name);
-    text(&name[0..a]);
-    let mut image = io::large_buffer();
-    let n = packed::bytes(&mut image);
-    let right = judged(&image[0..n]);
-    let count = packed::number();
-    let differ = lookups(count, &image[0..n]);
-    text(b", ");
-    totals(count, b" lookups, ", differ);
-    right && differ == 0
+fn one<R: Read>(rt: &impl Print, input: &mut R) -> io::Result<bool> {
+    let mut name = [0u8; 4096];
+    let a = packed::bytes(input, &mut name)?;
+    text(rt, &name[0..a])?;
+    let mut image = [0u8; 65536];
+    let n = packed::bytes(input, &mut image)?;
+    let right = judged(rt, input, &image[0..n])?;
+    let count = packed::number(input)?;
+    let differ = lookups(rt, input, count, &image[0..n])?;
+    text(rt, b", ")?;
+    totals(rt, count, b" lookups, ", differ)?;
+    Ok(right && differ == 0)
 }
 
 // So many images: how many differ.
-fn images(count: u32) -> u32 {
+fn images<R: Read>(rt: &impl Print, input: &mut R, count: u32) -> io::Result<u32> {
     let mut differ: u32 = 0;
     let mut k: u32 = 0;
     while k < count {
         k += 1;
-        if !one() {
+        if !one(rt, input)? {
             differ += 1;
         }
     }
-    differ
+    Ok(differ)
 }
 
-fn main() {
-    let count = packed::number();
-    totals(count, b" images, ", images(count));
+fn main(rt: HostRuntime) -> io::Result<()> {
+    let mut input = rt.reader();
+    let count = packed::number(&mut input)?;
+    let differ = images(&rt, &mut input, count)?;
+    totals(&rt, count, b" images, ", differ)
 }

@@ -54,9 +54,9 @@ part-with-other s n p image t m e h d = ⊎_elim before after d
         rw (drop_past (take s image) _ s t ls (omega arith), drop_past p _ n (t - s) e (omega arith), drop-drop, drop-drop, k)
 
 -- ---- byte by byte
-pub get_d_part : (s n : ℕ) (image : List ℕ) (i : ℕ) → i < n → get_or (part s n image) i 0 ≡ get_or image (s + i) 0
+pub get_or-part : (s n : ℕ) (image : List ℕ) (i : ℕ) → i < n → get_or (part s n image) i 0 ≡ get_or image (s + i) 0
 unfolding part
-get_d_part s n image i h = get_or-take n (drop s image) i 0 h ∙ get_or-drop s image i 0
+get_or-part s n image i h = get_or-take n (drop s image) i 0 h ∙ get_or-drop s image i 0
 
 module _ (s n : ℕ) (p image : List ℕ) (e : length p ≡ n) (h : s + n ≤ length image) where
   front : length (take s image) ≡ s

@@ -5,7 +5,7 @@ use Rattle.std.proofs.Math.Decide.{ℕ_discrete}
 use Rattle.std.proofs.Math.Arith.{lt_of_le-ne}
 use Rattle.std.proofs.Math.Dec.{not_T}
 use Rattle.lists.specs.Lists.{sum, count}
-use Rattle.list_laws.specs.Test.{by-test, cond_yes, cond_no, and-of, and_l, and_r, eqb_of, neqb-of, iff-eq}
+use Rattle.list_laws.specs.Test.{cond_yes, cond_no, and-of, and_l, and_r, eqb_of, neqb-of, iff-eq}
 
 pub sum_one : (f : ℕ → ℕ) (n i : ℕ) → i < n → f i ≤ sum f n
 unfolding sum

@@ -1,1 +1,2 @@
 // Laws of the functions in lists. No code: see specs/.
+#![tactic(auto)]

@@ -1,122 +1,126 @@
 // Runs the numbers that the rules name and that are no theorems: a size over the largest, an image one byte too short, and
 // a full directory with and without free blocks.
-use libc::STDOUT_FILENO;
+#![tactic(auto)]
+
+use std::io;
 use tfs::{Answer, CheckAnswer, Done, EntryAnswer, Fault, TransferAnswer};
 
 // ---- lines
 
-fn text(words: &[u8]) {
-    io::write_all(STDOUT_FILENO, words);
+fn text(rt: &impl Print, words: &[u8]) -> io::Result<()> {
+    rt.write_all(words)
 }
 
-fn number(n: u32) {
-    io::print_decimal(STDOUT_FILENO, n as u64);
+fn number(rt: &impl Print, n: u32) -> io::Result<()> {
+    print!(rt; "{n}")
 }
 
-fn refused(n: u32) {
-    text(b"refused ");
-    number(n);
+fn refused(rt: &impl Print, n: u32) -> io::Result<()> {
+    text(rt, b"refused ")?;
+    number(rt, n)
 }
 
-fn fault(f: Fault) {
+fn fault(rt: &impl Print, f: Fault) -> io::Result<()> {
     match f {
-        Fault::Header(n) => refused(n),
+        Fault::Header(n) => refused(rt, n),
         Fault::Slot(n, slot) => {
-            refused(n);
-            text(b", slot ");
-            number(slot);
+            refused(rt, n)?;
+            text(rt, b", slot ")?;
+            number(rt, slot)
         }
         Fault::Block(n, block) => {
-            refused(n);
-            text(b", block ");
-            number(block);
+            refused(rt, n)?;
+            text(rt, b", block ")?;
+            number(rt, block)
         }
     }
 }
 
-fn checked(what: &[u8], c: CheckAnswer) {
-    text(what);
+fn checked(rt: &impl Print, what: &[u8], c: CheckAnswer) -> io::Result<()> {
+    text(rt, what)?;
     match c {
-        CheckAnswer::Consistent => text(b"consistent"),
-        CheckAnswer::Refused(f) => fault(f),
+        CheckAnswer::Consistent => text(rt, b"consistent")?,
+        CheckAnswer::Refused(f) => fault(rt, f)?,
     }
-    text(b"\n");
+    text(rt, b"\n")
 }
 
-fn done(what: &[u8], d: Done) {
-    text(what);
+fn done(rt: &impl Print, what: &[u8], d: Done) -> io::Result<()> {
+    text(rt, what)?;
     match d {
-        Done::Granted => text(b"granted"),
-        Done::Refused(n) => refused(n),
-        Done::Inconsistent(f) => fault(f),
+        Done::Granted => text(rt, b"granted")?,
+        Done::Refused(n) => refused(rt, n)?,
+        Done::Inconsistent(f) => fault(rt, f)?,
     }
-    text(b"\n");
+    text(rt, b"\n")
 }
 
-fn answer(what: &[u8], a: Answer) {
-    text(what);
+fn answer(rt: &impl Print, what: &[u8], a: Answer) -> io::Result<()> {
+    text(rt, what)?;
     match a {
-        Answer::Granted(n) => number(n),
-        Answer::Refused(n) => refused(n),
-        Answer::Inconsistent(f) => fault(f),
+        Answer::Granted(n) => number(rt, n)?,
+        Answer::Refused(n) => refused(rt, n)?,
+        Answer::Inconsistent(f) => fault(rt, f)?,
     }
-    text(b"\n");
+    text(rt, b"\n")
 }
 
-fn transfer(what: &[u8], t: TransferAnswer) {
-    text(what);
+fn transfer(rt: &impl Print, what: &[u8], t: TransferAnswer) -> io::Result<()> {
+    text(rt, what)?;
     match t {
-        TransferAnswer::Granted(moved) => number(moved.count),
-        TransferAnswer::Refused(n) => refused(n),
-        TransferAnswer::Inconsistent(f) => fault(f),
+        TransferAnswer::Granted(moved) => number(rt, moved.count)?,
+        TransferAnswer::Refused(n) => refused(rt, n)?,
+        TransferAnswer::Inconsistent(f) => fault(rt, f)?,
     }
-    text(b"\n");
+    text(rt, b"\n")
 }
 
-fn listed(what: &[u8], e: EntryAnswer) {
-    text(what);
+fn listed(rt: &impl Print, what: &[u8], e: EntryAnswer) -> io::Result<()> {
+    text(rt, what)?;
     match e {
-        EntryAnswer::Free => text(b"free"),
-        EntryAnswer::File(_, inode, _) => number(inode),
-        EntryAnswer::Refused(n) => refused(n),
-        EntryAnswer::Inconsistent(f) => fault(f),
+        EntryAnswer::Free => text(rt, b"free")?,
+        EntryAnswer::File(_, inode, _) => number(rt, inode)?,
+        EntryAnswer::Refused(n) => refused(rt, n)?,
+        EntryAnswer::Inconsistent(f) => fault(rt, f)?,
     }
-    text(b"\n");
+    text(rt, b"\n")
 }
 
 // ---- the numbers
 
 // The largest file is 65,024 bytes.
-fn sizes(image: &mut [u8]) {
-    done(b"format 131 blocks: ", tfs::format(image, b"LARGE"));
+fn sizes(rt: &impl Print, image: &mut [u8]) -> io::Result<()> {
+    done(rt, b"format 131 blocks: ", tfs::format(image, b"LARGE"))?;
     answer(
+        rt,
         b"  create 65025 bytes: ",
         tfs::create(image, b"FILE", 65025),
-    );
+    )?;
     answer(
+        rt,
         b"  create 4294967295 bytes: ",
         tfs::create(image, b"FILE", 4294967295),
-    );
-    answer(b"  free bytes: ", tfs::free_bytes(image));
+    )?;
+    answer(rt, b"  free bytes: ", tfs::free_bytes(image))
 }
 
 // Every request on an image of 1,535 bytes, in two halves.
-fn short(image: &mut [u8]) {
-    text(b"1535 bytes\n");
-    done(b"  format: ", tfs::format(image, b"SHORT"));
-    answer(b"  create: ", tfs::create(image, b"FILE", 0));
-    done(b"  remove: ", tfs::remove(image, b"FILE"));
+fn short(rt: &impl Print, image: &mut [u8]) -> io::Result<()> {
+    text(rt, b"1535 bytes\n")?;
+    done(rt, b"  format: ", tfs::format(image, b"SHORT"))?;
+    answer(rt, b"  create: ", tfs::create(image, b"FILE", 0))?;
+    done(rt, b"  remove: ", tfs::remove(image, b"FILE"))
 }
 
-fn short_too(image: &mut [u8]) {
-    checked(b"  check: ", tfs::check(image));
+fn short_too(rt: &impl Print, image: &mut [u8]) -> io::Result<()> {
+    checked(rt, b"  check: ", tfs::check(image))?;
     let mut buf = [0u8; 8];
-    transfer(b"  read: ", tfs::read(image, b"FILE", 0, &mut buf));
-    transfer(b"  write: ", tfs::write(image, b"FILE", 0, b"12345678"));
+    transfer(rt, b"  read: ", tfs::read(image, b"FILE", 0, &mut buf))?;
+    transfer(rt, b"  write: ", tfs::write(image, b"FILE", 0, b"12345678"))?;
     let listing = tfs::list(image, 0);
     let entry = listing.entry;
-    listed(b"  list: ", entry);
-    answer(b"  free bytes: ", tfs::free_bytes(image));
+    listed(rt, b"  list: ", entry)?;
+    answer(rt, b"  free bytes: ", tfs::free_bytes(image))
 }
 
 fn granted(a: Answer) -> bool {
@@ -147,44 +151,47 @@ fn fill(image: &mut [u8]) -> u32 {
 }
 
 // A name that stands in a full directory, and a new one.
-fn two_names(image: &mut [u8]) {
-    answer(b"  create A: ", tfs::create(image, b"A", 0));
+fn two_names(rt: &impl Print, image: &mut [u8]) -> io::Result<()> {
+    answer(rt, b"  create A: ", tfs::create(image, b"A", 0))?;
     answer(
+        rt,
         b"  create Y, 65024 bytes: ",
         tfs::create(image, b"Y", 65024),
-    );
-    answer(b"  create NEW: ", tfs::create(image, b"NEW", 0));
+    )?;
+    answer(rt, b"  create NEW: ", tfs::create(image, b"NEW", 0))?;
     answer(
+        rt,
         b"  create NEW, 65024 bytes: ",
         tfs::create(image, b"NEW", 65024),
-    );
+    )
 }
 
 // A full directory.
-fn full(image: &mut [u8]) {
-    done(b": ", tfs::format(image, b"FULL"));
-    text(b"  empty files created: ");
-    number(fill(image));
-    text(b"\n");
-    checked(b"  check: ", tfs::check(image));
-    answer(b"  free bytes: ", tfs::free_bytes(image));
-    two_names(image);
+fn full(rt: &impl Print, image: &mut [u8]) -> io::Result<()> {
+    done(rt, b": ", tfs::format(image, b"FULL"))?;
+    text(rt, b"  empty files created: ")?;
+    number(rt, fill(image))?;
+    text(rt, b"\n")?;
+    checked(rt, b"  check: ", tfs::check(image))?;
+    answer(rt, b"  free bytes: ", tfs::free_bytes(image))?;
+    two_names(rt, image)
 }
 
-fn main() {
+fn main(rt: HostRuntime) -> io::Result<()> {
     let mut large = [0u8; 67072];
-    sizes(&mut large);
+    sizes(&rt, &mut large)?;
     let mut tiny = [0u8; 1535];
-    short(&mut tiny);
-    short_too(&mut tiny);
-    text(b"format 131 blocks");
-    full(&mut large);
+    short(&rt, &mut tiny)?;
+    short_too(&rt, &mut tiny)?;
+    text(&rt, b"format 131 blocks")?;
+    full(&rt, &mut large)?;
     let mut small = [0u8; 14336];
-    text(b"format 28 blocks");
-    full(&mut small);
-    done(b"  remove C: ", tfs::remove(&mut small, b"C"));
+    text(&rt, b"format 28 blocks")?;
+    full(&rt, &mut small)?;
+    done(&rt, b"  remove C: ", tfs::remove(&mut small, b"C"))?;
     answer(
+        &rt,
         b"  create NEW: inode number ",
         tfs::create(&mut small, b"NEW", 0),
-    );
+    )
 }

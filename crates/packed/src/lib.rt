@@ -1,49 +1,83 @@
-// Packed test cases, read from standard input. A number is four bytes and a long number eight, the most significant first;
-// bytes stand behind their count. What the input holds is open to the functions that read, so their contracts only say how
-// large a number is and how much of a buffer is filled.
-ghost use Rattle.std.specs.Prelude.{◌≡◌, ◌^◌, ◌<◌, ◌≤◌, length};
-ghost use Rattle.packed.specs.Hash.{times, hash_on};
+// Packed test cases, read from an input. A number is four bytes and a long number eight, the most significant first;
+// bytes stand behind their count. Each contract says which bytes the reader lost and what is made of them; where a read failed,
+// that what is left is the end of what there was.
+#![tactic(auto)]
 
+ghost use Rattle.std.specs.Prelude.{◌≡◌, ◌^◌, ◌<◌, ◌≤◌, length, take, IfOk};
+ghost use Rattle.packed.specs.Hash.{times, hash_on};
+ghost use Rattle.packed.specs.Input.{EndOf, Loses, ReadsByte, ReadsNumber, ReadsLong, ReadsBytes};
+
+use spans::copy::zero;
 use spans::words::be32;
+use std::io;
+use std::io::Read;
 
 pub mod cases;
 pub mod lines;
 
+// Reads until a buffer is full or the input ends; how many bytes now stand at its start.
+fn fill<R: Read>(input: &mut R, buf: &mut [u8]) -> io::Result<usize>
+    ensures within { IfOk result (λ n. n ≤ length buf.new) }
+    ensures lost { IfOk result (λ n. Loses (R.remaining input.old) (R.remaining input.new) (length buf.old) (take n buf.new)) }
+    ensures left { EndOf (R.remaining input.old) (R.remaining input.new) }
+{
+    let mut done = 0;
+    while done < buf.len() {
+        let n = input.read(&mut buf[done..])?;
+        if n == 0 {
+            return Ok(done);
+        }
+        done += n;
+    }
+    Ok(done)
+}
+
 // A single byte; 0 where the input has ended.
-pub fn byte() -> u32
-    ensures { result < 2 ^ 8 }
+pub fn byte<R: Read>(input: &mut R) -> io::Result<u32>
+    ensures small { IfOk result (λ b. b < 2 ^ 8) }
+    ensures lost { IfOk result (λ b. ReadsByte (R.remaining input.old) (R.remaining input.new) b) }
+    ensures left { EndOf (R.remaining input.old) (R.remaining input.new) }
 {
     let mut one = [0u8; 1];
-    io::read_full(0, &mut one);
-    wide(one[0]) as u32
+    if fill(input, &mut one)? == 0 {
+        return Ok(0);
+    }
+    Ok(wide(one[0]) as u32)
 }
 
 // A number. Bytes that the input lacks count as 0.
-pub fn number() -> u32
-    ensures { result < 2 ^ 32 }
+pub fn number<R: Read>(input: &mut R) -> io::Result<u32>
+    ensures small { IfOk result (λ n. n < 2 ^ 32) }
+    ensures lost { IfOk result (λ n. ReadsNumber (R.remaining input.old) (R.remaining input.new) n) }
+    ensures left { EndOf (R.remaining input.old) (R.remaining input.new) }
 {
     let mut word = [0u8; 4];
-    io::read_full(0, &mut word);
-    be32(&word, 0)
+    let n = fill(input, &mut word)?;
+    zero(&mut word[n..]);
+    Ok(be32(&word, 0))
 }
 
-pub fn long_number() -> u64
-    ensures { result < 2 ^ 64 }
+pub fn long_number<R: Read>(input: &mut R) -> io::Result<u64>
+    ensures small { IfOk result (λ n. n < 2 ^ 64) }
+    ensures lost { IfOk result (λ n. ReadsLong (R.remaining input.old) (R.remaining input.new) n) }
+    ensures left { EndOf (R.remaining input.old) (R.remaining input.new) }
 {
-    let high = number() as u64;
-    let low = number() as u64;
-    high * 4294967296 + low
+    let high = number(input)? as u64;
+    let low = number(input)? as u64;
+    Ok(high * 4294967296 + low)
 }
 
 // Puts bytes at the start of a buffer and gives their count; those that the buffer does not hold are left in the input.
-pub fn bytes(buf: &mut [u8]) -> usize
-    ensures { result ≤ length buf.new }
+pub fn bytes<R: Read>(input: &mut R, buf: &mut [u8]) -> io::Result<usize>
+    ensures within { IfOk result (λ n. n ≤ length buf.new) }
+    ensures lost { IfOk result (λ n. ReadsBytes (R.remaining input.old) (R.remaining input.new) (length buf.old) (take n buf.new)) }
+    ensures left { EndOf (R.remaining input.old) (R.remaining input.new) }
 {
-    let n = number() as usize;
+    let n = number(input)? as usize;
     if buf.len() < n {
-        return io::read_full(0, buf);
+        return fill(input, buf);
     }
-    io::read_full(0, &mut buf[0..n])
+    fill(input, &mut buf[0..n])
 }
 
 // x times 1,099,511,628,211, which is 2^40 + 435, modulo 2^64, by halves of x.

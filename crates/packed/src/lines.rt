@@ -1,19 +1,19 @@
 // Lines on standard output.
-use libc::STDOUT_FILENO;
+use std::io;
 
-pub fn text(words: &[u8]) {
-    io::write_all(STDOUT_FILENO, words);
+pub fn text(rt: &impl Print, words: &[u8]) -> io::Result<()> {
+    rt.write_all(words)
 }
 
 // A number behind some words.
-pub fn number(before: &[u8], n: u32) {
-    text(before);
-    io::print_decimal(STDOUT_FILENO, n as u64);
+pub fn number(rt: &impl Print, before: &[u8], n: u32) -> io::Result<()> {
+    text(rt, before)?;
+    print!(rt; "{n}")
 }
 
 // How many there were of something, and how many of them differ.
-pub fn totals(count: u32, what: &[u8], differ: u32) {
-    number(b"", count);
-    number(what, differ);
-    text(b" differ\n");
+pub fn totals(rt: &impl Print, count: u32, what: &[u8], differ: u32) -> io::Result<()> {
+    number(rt, b"", count)?;
+    number(rt, what, differ)?;
+    text(rt, b" differ\n")
 }

@@ -1,4 +1,6 @@
 // The line that the replay program prints: decimal numbers with single spaces, and a newline.
+#![tactic(auto)]
+
 mod digits; // digits.rt: a number as text
 
 ghost use Rattle.std.specs.Prelude.{◌≡◌, [], ◌∷◌, ◌≤◌, length, take, drop};

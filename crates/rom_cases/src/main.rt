@@ -1,8 +1,12 @@
 // Runs packed test cases through the romfs requests and compares refusal, place, values, content, and the hash of the image. One
 // line for each case that differs, then the counts. The input is that of host/generate:
 // pack romfs crates/rom_cases/stdin --seed 1 --cases 1000
+#![tactic(auto)]
+
 use packed::cases::{Given, Outcome, done, granted, one, refused};
 use romfs::{CheckAnswer, ContentAnswer, EntryAnswer, Fault, FindAnswer};
+use std::io;
+use std::io::Read;
 
 // ---- what the requests give
 
@@ -84,41 +88,67 @@ fn text(given: Given, image: &[u8]) -> &[u8] {
 // ---- cases
 
 // Whether a case comes out as expected.
-fn compare(k: u32, given: Given, got: Outcome, image: &[u8], buf: &[u8]) -> bool {
-    packed::cases::comes_out(k, given.request, got, text(given, image), image, buf)
+fn compare<R: Read>(
+    rt: &impl Print,
+    input: &mut R,
+    k: u32,
+    given: Given,
+    got: Outcome,
+    image: &[u8],
+    buf: &[u8],
+) -> io::Result<bool> {
+    packed::cases::comes_out(
+        rt,
+        input,
+        k,
+        given.request,
+        got,
+        text(given, image),
+        image,
+        buf,
+    )
 }
 
 // Case number k, read into what is lent.
-fn case_in(k: u32, name: &mut [u8], buf: &mut [u8], image: &mut [u8]) -> bool {
-    let given = packed::cases::next(name, buf, image);
+fn case_in<R: Read>(
+    rt: &impl Print,
+    input: &mut R,
+    k: u32,
+    name: &mut [u8],
+    buf: &mut [u8],
+    image: &mut [u8],
+) -> io::Result<bool> {
+    let given = packed::cases::next(input, name, buf, image)?;
     let a = given.name;
     let b = given.buf;
     let c = given.image;
     let got = request(given, &name[0..a], &image[0..c]);
-    compare(k, given, got, &image[0..c], &buf[0..b])
+    compare(rt, input, k, given, got, &image[0..c], &buf[0..b])
 }
 
-fn case(k: u32) -> bool {
-    let mut name = io::buffer();
-    let mut buf = io::buffer();
-    let mut image = io::large_buffer();
-    case_in(k, &mut name, &mut buf, &mut image)
+fn case<R: Read>(rt: &impl Print, input: &mut R, k: u32) -> io::Result<bool> {
+    let mut name = [0u8; 4096];
+    let mut buf = [0u8; 4096];
+    let mut image = [0u8; 65536];
+    case_in(rt, input, k, &mut name, &mut buf, &mut image)
 }
 
 // So many cases: how many differ.
-fn cases(count: u32) -> u32 {
+fn cases<R: Read>(rt: &impl Print, input: &mut R, count: u32) -> io::Result<u32> {
     let mut differ: u32 = 0;
     let mut k: u32 = 0;
     while k < count {
         k += 1;
-        if !case(k) {
+        if !case(rt, input, k)? {
             differ += 1;
         }
     }
-    differ
+    Ok(differ)
 }
 
-fn main() {
-    let count = packed::number();
-    packed::lines::totals(count, b" cases, ", cases(count));
+fn main(rt: HostRuntime) -> io::Result<()> {
+    let mut input = rt.reader();
+    let count = packed::number(&mut input)?;
+    let differ = cases(&rt, &mut input, count)?;
+    packed::lines::totals(&rt, count, b" cases, ", differ)
 }

@@ -98,4 +98,4 @@ PartFits long (parts.Inconsistent f) = FaultFits f
 
 -- a part of the image, not a copy: in the image's memory, so many bytes after its first
 abbrev pub LiesAt : Bor (List ℕ) → Bor (List ℕ) → ℕ → Type 0
-LiesAt part image from = (part.ptr.0 ≡ image.ptr.0) × (part.ptr.1 ≡ from + image.ptr.1)
+LiesAt part image from = (part.ref_ptr.0 ≡ image.ref_ptr.0) × (part.ref_ptr.1 ≡ from + image.ref_ptr.1)

@@ -1,5 +1,7 @@
 // romfs: check, find, entry and content of a read-only image. Any image, name and offset may be given to any request.
 // The rules are in romfs_spec; what an answer tells of them, and which numbers it holds, is in specs/Told.antt.
+#![tactic(auto)]
+
 ghost use Rattle.std.specs.Prelude.{◌≡◌, length};
 ghost use Rattle.romfs_spec.specs.Check as rules;
 ghost use Rattle.romfs_spec.specs.Requests as requests;
@@ -11,7 +13,7 @@ use romfs_check::Verdict;
 mod steps; // steps.rt: what a request does on an image that the check accepts
 
 // The first fault of an image.
-#[derive(Drop)]
+#[derive(Clone, Copy)]
 pub enum Fault {
     // 21 to 25.
     Volume(u32),
@@ -19,14 +21,14 @@ pub enum Fault {
     Header(u32, u32),
 }
 
-#[derive(Drop)]
+#[derive(Clone, Copy)]
 pub enum CheckAnswer {
     Accepted,
     Refused(Fault),
 }
 
 // Each other request checks the image first: Inconsistent has the fault. Refused has 31, of find also 30.
-#[derive(Drop)]
+#[derive(Clone, Copy)]
 pub enum FindAnswer {
     // The header's offset.
     Found(u32),
@@ -34,7 +36,7 @@ pub enum FindAnswer {
     Inconsistent(Fault),
 }
 
-#[derive(Drop)]
+#[derive(Clone, Copy)]
 pub enum EntryAnswer {
     // The type as in the rules' list; executable is 0 or 1.
     Entry {
@@ -49,14 +51,14 @@ pub enum EntryAnswer {
     Inconsistent(Fault),
 }
 
-#[derive(Drop)]
+#[derive(Clone, Copy)]
 pub enum ContentAnswer {
     Length(u32),
     Refused(u32),
     Inconsistent(Fault),
 }
 
-#[derive(Drop)]
+#[derive(Clone, Copy)]
 pub enum PartAnswer {
     // Where the content begins in the image, and its length.
     Part { offset: u32, length: u32 },

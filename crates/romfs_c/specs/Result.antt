@@ -37,8 +37,8 @@ abbrev pub field_of : (Entry → ℕ) → Answer Entry → ℕ
 field_of field (granted e) = field e
 field_of field (refused n p) = 0
 
-abbrev pub header_at : Answer Entry → RomfsHeader
-header_at a = record {
+abbrev pub header_of : Answer Entry → RomfsHeader
+header_of a = record {
   refusal = refusal_of a;
   place = place_of a;
   file_type = field_of (λ e. e.type_of_file) a;
@@ -81,10 +81,10 @@ result-is r {a} t e = let whole : r ≡ result_of a = λ i. record { refusal = t
 pub header-by : (r : RomfsHeader) {a b : Answer Entry} → TellsHeader r a → a ≡ b → TellsHeader r b
 header-by r t e = subst (λ x. TellsHeader r x) e t
 
-pub header_is : (r : RomfsHeader) {a b : Answer Entry} → TellsHeader r a → a ≡ b → r ≡ header_at b
+pub header_is : (r : RomfsHeader) {a b : Answer Entry} → TellsHeader r a → a ≡ b → r ≡ header_of b
 header_is r {a} t e =
-    let whole : r ≡ header_at a = λ i. record { refusal = t.0 i; place = t.1 i; file_type = t.2 i; executable = t.3 i; info = t.4 i; size = t.5 i; next = t.6 i; name_length = t.7 i } in
-    whole ∙ ap header_at e
+    let whole : r ≡ header_of a = λ i. record { refusal = t.0 i; place = t.1 i; file_type = t.2 i; executable = t.3 i; info = t.4 i; size = t.5 i; next = t.6 i; name_length = t.7 i } in
+    whole ∙ ap header_of e
 
 pub part-is : (r : RomfsPart) {x y : ℕ} {a b : Answer ℕ} → TellsPart r x a → x ≡ y → a ≡ b → r ≡ content_of y b
 part-is r t e f = λ i. record { refusal = (t.0 ∙ ap refusal_of f) i; place = (t.1 ∙ ap place_of f) i; offset = (t.2 ∙ e) i; length = (t.3 ∙ ap value_of f) i }

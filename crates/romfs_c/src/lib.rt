@@ -1,16 +1,18 @@
 // The romfs requests for C. The header is romfs.h; a slice passes as a pointer and then a length.
+#![tactic(auto)]
+
 ghost use Rattle.std.specs.Prelude.{◌≡◌};
 ghost use Rattle.romfs_spec.specs.Check as rules;
 ghost use Rattle.romfs_spec.specs.Requests as requests;
 ghost use Rattle.romfs_spec.specs.Requests.{checked, granted, refused};
 ghost use Rattle.romfs.specs.Told.{fault_answer, find_told, entry_told, part_told, part_start};
-ghost use Rattle.romfs_c.specs.Result.{checked_answer, result_of, header_at, content_of, Tells, TellsHeader, TellsPart};
+ghost use Rattle.romfs_c.specs.Result.{checked_answer, result_of, header_of, content_of, Tells, TellsHeader, TellsPart};
 
 use romfs::{CheckAnswer, EntryAnswer, Fault, FindAnswer, PartAnswer};
 
 // The refusal's number, 0 for granted; its place; the value granted.
 #[repr(C)]
-#[derive(Drop)]
+#[derive(Clone, Copy)]
 pub struct RomfsResult {
     pub refusal: u32,
     pub place: u32,
@@ -19,7 +21,7 @@ pub struct RomfsResult {
 
 // The refusal and its place; the fields of the entry.
 #[repr(C)]
-#[derive(Drop)]
+#[derive(Clone, Copy)]
 pub struct RomfsHeader {
     pub refusal: u32,
     pub place: u32,
@@ -33,7 +35,7 @@ pub struct RomfsHeader {
 
 // The refusal and its place; where the content begins, and its length.
 #[repr(C)]
-#[derive(Drop)]
+#[derive(Clone, Copy)]
 pub struct RomfsPart {
     pub refusal: u32,
     pub place: u32,
@@ -162,7 +164,7 @@ fn of_entry(a: EntryAnswer) -> RomfsHeader
 // The entry at a header.
 #[unsafe(no_mangle)]
 pub extern "C" fn romfs_entry(image: &[u8], at: u32) -> RomfsHeader
-    ensures { result ≡ header_at (requests.entry image.now at) }
+    ensures { result ≡ header_of (requests.entry image.now at) }
 {
     of_entry(romfs::entry(image, at))
 }

@@ -1,4 +1,6 @@
 // romfs check: rules 21 to 29. The requests are in romfs.
+#![tactic(auto)]
+
 ghost use Rattle.std.specs.Prelude.{◌≡◌, not, ◌||◌, ◌-◌, ◌%◌, ◌≤◌, min, ltb, eqb, length};
 ghost use Rattle.romfs_spec.specs.Check.{bad_magic, volume, fault, visit_list, visit_entry, walk, links, and_then};
 ghost use Rattle.romfs_spec.specs.Check as rules;
@@ -14,7 +16,7 @@ use romfs_links::lowest::lowest_bad_link;
 use romfs_links::window::mark;
 
 // The first fault: its number and its place.
-#[derive(Drop)]
+#[derive(Clone, Copy)]
 pub enum Verdict {
     Accepted,
     Broken(u32, u32),

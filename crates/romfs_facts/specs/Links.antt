@@ -1,5 +1,5 @@
 -- Rule 29: the lowest reached header with a bad link.
-use Rattle.std.specs.Prelude.{ℕ, ◌-◌, ◌<◌, ◌≡◌, refl, Bool, true, false, not, cond, ◌&&◌, ◌||◌, List, T, ltb, eqb}
+use Rattle.std.specs.Prelude.{ℕ, ◌<◌, ◌≡◌, refl, Bool, true, false, not, cond, ◌&&◌, ◌||◌, List, T, ltb, eqb}
 use Rattle.std.proofs.Common.{sym, ap, ◌∙◌, ⊎_elim, arith, eq-eqb, ne_eqb, eqb-true, lt-ltb, le-ltb, ltb-true, ltb-false}
 use Rattle.std.proofs.lemmas.Bool.{eqb-false, not-false, not-true}
 use Rattle.list_laws.specs.Test.{of-true, to-true, no_false, or-no-l, or-no-r}
@@ -10,7 +10,7 @@ use Rattle.romfs_spec.specs.Check.{accepted, broken, walk, is_reached, bad_link,
 use Rattle.romfs_facts.specs.Tested.{Linked}
 use Rattle.romfs_facts.specs.Facts.{and_no, and-yes-l, and-yes-r, both, true-false}
 use Rattle.romfs_facts.specs.Visit.{not-both}
-use Rattle.romfs_facts.specs.Lowest.{lowest, yes-no}
+use Rattle.romfs_facts.specs.Lowest.{yes-no}
 use Rattle.romfs_facts.specs.Walked.{Volume}
 use Rattle.romfs_facts.specs.Seek.{is-reached, reached-is}
 

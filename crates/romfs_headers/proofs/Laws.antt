@@ -4,7 +4,7 @@ use native.Mathlib.Decide.{dec_lt, ℕ_discrete}
 use borrow.Author.Tests.{lt-leb}
 use Rattle.lists.specs.Lists.{same_list, zero_at, word, part}
 use Rattle.list_laws.specs.Test.{to-true, to-false, same-eq, same_refl}
-use Rattle.list_laws.specs.Part.{get_d_part, length_part}
+use Rattle.list_laws.specs.Part.{get_or-part, length_part}
 use Rattle.list_laws.specs.Least.{Below, found, none_found, least-le, least-hit}
 use Rattle.romfs_spec.specs.Layout.{full_size, name_length, sum_of_words, next, info, end_of, own, name, is_dots, has_list}
 use Rattle.romfs_spec.specs.Check.{accepted, broken, over_bound, bad_header, bad_next, bad_first, bad_nesting, too_deep, fault}
@@ -32,13 +32,13 @@ module _ (s : List ℕ) (at n : ℕ) (name : List ℕ) (fits : at + n ≤ length
   pub same-other : (i : ℕ) → i < n → (get_or s (at + i) 0 ≡ get_or name i 0 → ⊥) → same_list (part at n s) name ≡ false
   same-other i l h =
       to-false (same_list (part at n s) name)
-      (λ t. h (sym (get_d_part at n s i l) ∙ ap (λ (x : List ℕ). get_or x i 0) (same-eq (part at n s) name t)))
+      (λ t. h (sym (get_or-part at n s i l) ∙ ap (λ (x : List ℕ). get_or x i 0) (same-eq (part at n s) name t)))
 
   pub same-all : n ≡ length name → ((i : ℕ) → i < n → get_or s (at + i) 0 ≡ get_or name i 0) → same_list (part at n s) name ≡ true
   same-all e h =
       let same : part at n s ≡ name =
       ext_get_or 0 (part at n s) name (length_part at n s fits ∙ e)
-      (λ i l. let k : i < n = omega (arith, length_part at n s fits) in get_d_part at n s i k ∙ h i k) in
+      (λ i l. let k : i < n = omega (arith, length_part at n s fits) in get_or-part at n s i k ∙ h i k) in
       rw same (to-true (same_list name name) (same_refl name))
 
 module _ (s : List ℕ) (at full i : ℕ) (e : full ≡ full_size s) (b : Below (λ j. zero_at s (at + j)) i) where

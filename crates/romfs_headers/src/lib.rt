@@ -1,4 +1,6 @@
 // romfs headers: words, names, and the rules that a header keeps by itself. The requests are in romfs.
+#![tactic(auto)]
+
 ghost use Rattle.std.specs.Prelude.{◌≡◌, ◌+◌, ◌*◌, ◌/◌, ◌%◌, ◌<◌, ◌≤◌, not, ◌&&◌, ◌||◌, length, if◌then◌else◌, ◌==◌, nat_eq, nat_le, nat_lt};
 ghost use Rattle.lists.specs.Lists.{same_list, word, part};
 ghost use Rattle.romfs_spec.specs.Layout.{pad16, name_length, full_size, first_root, type_of_file, executable, next, info, size, end_of, is_dots, descends, has_data, sum_of_words};
@@ -298,7 +300,7 @@ pub fn own_bound(next: usize, bound: usize) -> usize
 // ---- the walk
 
 // What a header says: the number of its fault, or nothing to descend to, or its list's first header and bound.
-#[derive(Drop)]
+#[derive(Clone, Copy)]
 pub enum Step {
     Broken(u32),
     Leaf,

@@ -8,7 +8,7 @@ use crate::link::test_link;
 use crate::window::mark;
 
 // The lowest bad link, and the least offset behind the window that a link below it leads to; the full size for none.
-#[derive(Drop)]
+#[derive(Clone, Copy)]
 pub struct Found {
     pub low: usize,
     pub far: usize,

@@ -1,5 +1,5 @@
 -- Find, entry and content: each answer is given exactly when the rules say, in plain facts.
-use Rattle.std.specs.Prelude.{ℕ, ◌+◌, ◌≡◌, refl, ◌≢◌, ◌⊎◌, ◌↔◌, Bool, true, false, cond, ◌&&◌, List, []}
+use Rattle.std.specs.Prelude.{ℕ, ◌+◌, ◌≡◌, refl, ◌≢◌, ◌↔◌, Bool, true, false, cond, ◌&&◌, List, []}
 use Rattle.std.proofs.Math.Path.{sym, ap}
 use Rattle.std.proofs.Common.{subst, ◌∙◌, arith}
 use Rattle.std.proofs.Math.Logic.{inl, inr, ⊎_elim}
@@ -9,7 +9,7 @@ use Rattle.std.proofs.Math.ListN.{length}
 use Rattle.std.proofs.Math.Dec.{eqb}
 use Rattle.lists.specs.Lists.{part}
 use Rattle.list_laws.specs.Part.{length_part}
-use Rattle.romfs_spec.specs.Layout.{full_size, first_root, name_length, name_ends, type_of_file, info, next, size, content_at, has_data}
+use Rattle.romfs_spec.specs.Layout.{full_size, first_root, name_length, name_ends, type_of_file, size, content_at, has_data}
 use Rattle.romfs_spec.specs.Check.{accepted, is_reached, check}
 use Rattle.romfs_spec.specs.Requests.{Answer, granted, refused, checked, first_of, match_in, is_directory, find_step, find, Entry, entry_at, entry_step, entry, content_step, content_length, content, content_start}
 use Rattle.romfs_spec.specs.Accepted.{full, ZeroAfter, size_at, IsReached, Accepted}

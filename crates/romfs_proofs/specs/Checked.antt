@@ -2,7 +2,7 @@
 use Rattle.std.specs.Prelude.{ℕ, suc, ◌+◌, ◌%◌, ◌≤◌, ◌<◌, ◌≡◌, refl, ◌≢◌, ◌↔◌, Bool, true, false, List, length}
 use Rattle.std.proofs.Common.{sym, ap, subst, ◌∙◌, ⊎_elim, arith}
 use Rattle.std.proofs.Math.Arith.{lt_of_le-ne}
-use Rattle.romfs_spec.specs.Layout.{pad16, full_size, name_length, name_ends, after_name, first_root, type_of_file, next, info, own}
+use Rattle.romfs_spec.specs.Layout.{pad16, full_size, name_length, name_ends, after_name, first_root, type_of_file, info, own}
 use Rattle.romfs_spec.specs.Check.{accepted, broken, too_short, bad_magic, bad_full_size, bad_volume_sum, bad_volume_name, bad_header, bad_nesting, too_deep, fault, check}
 use Rattle.romfs_spec.specs.Accepted as plain
 use Rattle.romfs_spec.specs.Accepted.{SoundVolume, type_at, next_at, info_at, HasList, RootFirst}

@@ -11,7 +11,7 @@ use Rattle.std.proofs.Math.Dec.{eqb}
 use Rattle.lists.specs.Lists.{same_list, least, zero_at, word, part}
 use Rattle.list_laws.specs.Least.{least-le, least-cong}
 use Rattle.list_laws.specs.Word.{word-cong}
-use Rattle.list_laws.specs.Part.{get_d_part}
+use Rattle.list_laws.specs.Part.{get_or-part}
 use Rattle.romfs_spec.specs.Layout.{full_size, name_length, name_ends, after_name, first_root, type_of_file, executable, next, info, size, name, content_at, end_of, own, is_dots, descends, has_list, has_data, sum_of_words}
 use Rattle.romfs_spec.specs.Check.{Verdict, accepted, broken, too_short, bad_magic, bad_full_size, bad_volume_sum, bad_volume_name, over_bound, bad_name, bad_sum, bad_info, bad_size, bad_header, bad_next, bad_first, bad_nesting, too_deep, fault, and_then, visit_list, visit_entry, visit_all, walk, towards, seek, is_reached, bad_link, links, volume, check}
 use Rattle.romfs_facts.specs.Tested.{along, IsReached, Sound, root}
@@ -61,7 +61,7 @@ part-take m a n l h =
     ext_get_or 0 (part a n (take m l)) (part a n l) (simp (length-take, length-drop) (omega arith))
     (λ i k.
     let j : i < n = omega (arith, length-take n (drop a (take m l))) in
-    get_d_part a n (take m l) i j ∙ get_or-take m l (a + i) 0 (omega arith) ∙ sym (get_d_part a n l i j))
+    get_or-part a n (take m l) i j ∙ get_or-take m l (a + i) 0 (omega arith) ∙ sym (get_or-part a n l i j))
 
 -- headers are at multiples of 16
 next-16 : (s : List ℕ) (p : ℕ) → next s p % 16 ≡ 0

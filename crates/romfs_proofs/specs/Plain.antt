@@ -11,7 +11,7 @@ use Rattle.std.proofs.Math.Dec.{leb, eqb, eqb→eq, T_not}
 use Rattle.lists.specs.Lists.{same_list, zero_at, sum, word, part}
 use Rattle.list_laws.specs.Test.{or-no-l, or-no-r, eqb_of, neqb-of, of-true, to-true, same-eq, same_refl}
 use Rattle.list_laws.specs.Least.{least-hit, least-below, least-is}
-use Rattle.list_laws.specs.Part.{get_d_part, length_part}
+use Rattle.list_laws.specs.Part.{get_or-part, length_part}
 use Rattle.romfs_spec.specs.Layout.{pad16, full_size, name_length, name_ends, after_name, type_of_file, executable, next, info, size, name, content_at, end_of, own, is_dots, descends, has_list, has_data, sum_of_words}
 use Rattle.romfs_spec.specs.Check.{too_short, bad_magic, bad_full_size, bad_volume_sum, bad_volume_name, over_bound, bad_name, bad_sum, bad_info, bad_size, bad_header, bad_next, bad_first, bad_nesting, too_deep}
 use Rattle.romfs_spec.specs.Accepted.{number_at, full, SomeZero, ZeroAfter, LongEnough, RightMagic, RightFullSize, RightVolumeSum, type_at, executable_at, next_at, info_at, size_at, data_at, end_at, Named, Dots, HasList, OwnBound, last, next as to_next, SoundHeader, Nested, Shallow}
@@ -127,7 +127,7 @@ module _ (s : List ℕ) (inside : full_size s ≤ length s) (p : ℕ) where
       let g : part (p + 16) n s ≡ l = sym (name-is s p n z) ∙ h in
       let m : n ≡ length l = sym k ∙ ap length g in
       record {
-        same = λ i j. sym (get_d_part (p + 16) n s i (omega arith)) ∙ ap (λ (x : List ℕ). get_or x i 0) g;
+        same = λ i j. sym (get_or-part (p + 16) n s i (omega arith)) ∙ ap (λ (x : List ℕ). get_or x i 0) g;
         ends = subst (ZeroAfter s (p + 16)) m z;
       }
 
@@ -135,7 +135,7 @@ module _ (s : List ℕ) (inside : full_size s ≤ length s) (p : ℕ) where
   of-named l h =
       let k : length (part (p + 16) (length l) s) ≡ length l = length_part (p + 16) (length l) s (omega (arith, h.ends.to, full_is s)) in
       name-is s p (length l) h.ends
-      ∙ ext_get_or 0 (part (p + 16) (length l) s) l k (λ i j. let m : i < length l = omega arith in get_d_part (p + 16) (length l) s i m ∙ h.same i m)
+      ∙ ext_get_or 0 (part (p + 16) (length l) s) l k (λ i j. let m : i < length l = omega arith in get_or-part (p + 16) (length l) s i m ∙ h.same i m)
 
   module _ (e : name_ends s (p + 16) ≡ true) where
     pub same-named : (l : List ℕ) → (same_list (name s p) l ≡ true) ↔ Named s p l

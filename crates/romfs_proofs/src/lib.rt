@@ -1,1 +1,2 @@
 // Proofs of the statements of romfs_spec. No code: see specs/.
+#![tactic(auto)]

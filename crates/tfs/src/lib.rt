@@ -1,4 +1,6 @@
 // TFS: files in an image that the caller holds. Every request but format and mend runs the check first, and gives its fault where the volume is not consistent.
+#![tactic(auto)]
+
 mod answers; // answers.rt: the answers made of what the crates below give
 mod look; // look.rt: list on a consistent volume
 
@@ -23,7 +25,7 @@ use tfs_steps::free::free_step;
 use tfs_transfer::{read_step, write_step};
 
 // What is wrong with a volume: the number of the first broken rule, and the lowest slot or block that breaks it.
-#[derive(Drop)]
+#[derive(Clone, Copy)]
 pub enum Fault {
     // rules 1 to 3, the header
     Header(u32),
@@ -34,14 +36,14 @@ pub enum Fault {
 }
 
 // What check answers.
-#[derive(Drop)]
+#[derive(Clone, Copy)]
 pub enum CheckAnswer {
     Consistent,
     Refused(Fault),
 }
 
 // What create, free bytes and the stores answer: granted with a number, refused by its number, or an inconsistent volume with its fault.
-#[derive(Drop)]
+#[derive(Clone, Copy)]
 pub enum Answer {
     Granted(u32),
     Refused(u32),
@@ -49,14 +51,14 @@ pub enum Answer {
 }
 
 // What read and write have moved: the count of bytes, and in how many content blocks these lie.
-#[derive(Drop)]
+#[derive(Clone, Copy)]
 pub struct Transferred {
     pub count: u32,
     pub blocks: u32,
 }
 
 // What read and write answer.
-#[derive(Drop)]
+#[derive(Clone, Copy)]
 pub enum TransferAnswer {
     Granted(Transferred),
     Refused(u32),
@@ -64,7 +66,7 @@ pub enum TransferAnswer {
 }
 
 // What format, remove and mend answer, which have no result.
-#[derive(Drop)]
+#[derive(Clone, Copy)]
 pub enum Done {
     Granted,
     Refused(u32),
@@ -72,7 +74,7 @@ pub enum Done {
 }
 
 // What list answers of a slot: free, or a file with its name's length, inode number and size.
-#[derive(Drop)]
+#[derive(Clone, Copy)]
 pub enum EntryAnswer {
     Free,
     File(u32, u32, u32),
@@ -81,14 +83,14 @@ pub enum EntryAnswer {
 }
 
 // That answer and, for a file, its name padded with zeros. (An enum holds no array.)
-#[derive(Drop)]
+#[derive(Clone, Copy)]
 pub struct Listing {
     pub entry: EntryAnswer,
     pub name: [u8; 16],
 }
 
 // What replay of a trace answers: all its records replayed, so many; the number, from 1, of the record at which it stops, malformed or with another answer than expected; or an inconsistent volume with its fault.
-#[derive(Drop)]
+#[derive(Clone, Copy)]
 pub enum ReplayAnswer {
     All(usize),
     Malformed(usize),

@@ -6,16 +6,16 @@ use Rattle.tfs_c.specs.declared.TfsResult.{TfsResult}
 use Rattle.tfs_c.specs.declared.TfsSlot.{TfsSlot}
 
 -- the refusal's number, 0 for granted; its place; the inode number, the count, the free bytes or a block's number; the blocks that a transfer meets
-abbrev pub result : ℕ → ℕ → ℕ → ℕ → TfsResult
-result num p x m = record { refusal = num; place = p; value = x; blocks = m }
+abbrev pub of_numbers : ℕ → ℕ → ℕ → ℕ → TfsResult
+of_numbers num p x m = record { refusal = num; place = p; value = x; blocks = m }
 
 unfoldable pub result_of : Answer → TfsResult
-result_of done = result 0 0 0 0
-result_of (value x) = result 0 0 x 0
-result_of (transferred c m) = result 0 0 c m
-result_of unused = result 0 0 0 0
-result_of (file nm i z) = result 0 0 0 0
-result_of (refused num p) = result num p 0 0
+result_of done = of_numbers 0 0 0 0
+result_of (value x) = of_numbers 0 0 x 0
+result_of (transferred c m) = of_numbers 0 0 c m
+result_of unused = of_numbers 0 0 0 0
+result_of (file nm i z) = of_numbers 0 0 0 0
+result_of (refused num p) = of_numbers num p 0 0
 
 -- ---- list: no file, and a file with its name's length, inode number and size
 abbrev pub empty_slot : ℕ → ℕ → List ℕ → TfsSlot

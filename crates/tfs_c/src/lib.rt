@@ -1,14 +1,16 @@
 // The TFS requests for C. The header is tfs.h; a slice passes as a pointer and then a length.
+#![tactic(auto)]
+
 ghost use Rattle.std.specs.Prelude.{◌≡◌};
 ghost use Rattle.tfs_spec.specs.Requests as rules;
 ghost use Rattle.tfs.specs.Told.{fault_answer, check_told, answer_told, transfer_told, done_told, entry_told, EntryFits};
-ghost use Rattle.tfs_c.specs.Result.{result, result_of, empty_slot, file_slot, slot_with, slot_of};
+ghost use Rattle.tfs_c.specs.Result.{of_numbers, result_of, empty_slot, file_slot, slot_with, slot_of};
 
 use tfs::{Answer, CheckAnswer, Done, EntryAnswer, Fault, TransferAnswer};
 
 // The refusal's number, 0 for granted; its place; the value granted; of a transfer the number of content blocks.
 #[repr(C)]
-#[derive(Drop)]
+#[derive(Clone, Copy)]
 pub struct TfsResult {
     pub refusal: u32,
     pub place: u32,
@@ -18,7 +20,7 @@ pub struct TfsResult {
 
 // What list gives of a slot: the refusal and its place; 1 for a file; its inode number, size and name.
 #[repr(C)]
-#[derive(Drop)]
+#[derive(Clone, Copy)]
 pub struct TfsSlot {
     pub refusal: u32,
     pub place: u32,
@@ -30,7 +32,7 @@ pub struct TfsSlot {
 }
 
 fn granted(value: u32, blocks: u32) -> TfsResult
-    ensures* { λ r. ⌜ r ≡ result 0 0 value blocks ⌝ }
+    ensures { result ≡ of_numbers 0 0 value blocks }
 {
     TfsResult {
         refusal: 0,
@@ -41,7 +43,7 @@ fn granted(value: u32, blocks: u32) -> TfsResult
 }
 
 fn refused(number: u32, place: u32) -> TfsResult
-    ensures* { λ r. ⌜ r ≡ result number place 0 0 ⌝ }
+    ensures { result ≡ of_numbers number place 0 0 }
 {
     TfsResult {
         refusal: number,
@@ -52,7 +54,7 @@ fn refused(number: u32, place: u32) -> TfsResult
 }
 
 fn of_fault(f: Fault) -> TfsResult
-    ensures* { λ r. ⌜ r ≡ result_of (fault_answer f) ⌝ }
+    ensures { result ≡ result_of (fault_answer f) }
 {
     match f {
         Fault::Header(n) => refused(n, 0),
@@ -62,7 +64,7 @@ fn of_fault(f: Fault) -> TfsResult
 }
 
 fn of_answer(a: Answer) -> TfsResult
-    ensures* { λ r. ⌜ r ≡ result_of (answer_told a) ⌝ }
+    ensures { result ≡ result_of (answer_told a) }
 {
     match a {
         Answer::Granted(x) => granted(x, 0),
@@ -72,7 +74,7 @@ fn of_answer(a: Answer) -> TfsResult
 }
 
 fn of_transfer(t: TransferAnswer) -> TfsResult
-    ensures* { λ r. ⌜ r ≡ result_of (transfer_told t) ⌝ }
+    ensures { result ≡ result_of (transfer_told t) }
 {
     match t {
         TransferAnswer::Granted(moved) => granted(moved.count, moved.blocks),
@@ -82,7 +84,7 @@ fn of_transfer(t: TransferAnswer) -> TfsResult
 }
 
 fn of_done(d: Done) -> TfsResult
-    ensures* { λ r. ⌜ r ≡ result_of (done_told d) ⌝ }
+    ensures { result ≡ result_of (done_told d) }
 {
     match d {
         Done::Granted => granted(0, 0),
@@ -92,7 +94,7 @@ fn of_done(d: Done) -> TfsResult
 }
 
 fn of_check(c: CheckAnswer) -> TfsResult
-    ensures* { λ r. ⌜ r ≡ result_of (rules.checked (check_told c) rules.refused rules.done) ⌝ }
+    ensures { result ≡ result_of (rules.checked (check_told c) rules.refused rules.done) }
 {
     match c {
         CheckAnswer::Consistent => granted(0, 0),
@@ -103,7 +105,7 @@ fn of_check(c: CheckAnswer) -> TfsResult
 // The first broken rule of the volume, at its lowest place.
 #[unsafe(no_mangle)]
 pub extern "C" fn tfs_check(image: &[u8]) -> TfsResult
-    ensures* { λ r. ⌜ r ≡ result_of (rules.check_answer 512 image.now) ⌝ }
+    ensures { result ≡ result_of (rules.check_answer 512 image.now) }
 {
     of_check(tfs::check(image))
 }
@@ -111,7 +113,7 @@ pub extern "C" fn tfs_check(image: &[u8]) -> TfsResult
 // An empty volume with this label, whatever the image held.
 #[unsafe(no_mangle)]
 pub extern "C" fn tfs_format(image: &mut [u8], label: &[u8]) -> TfsResult
-    ensures* { λ r. ⌜ (r ≡ result_of (rules.format 512 image.old label.now).answer) × (image.new ≡ (rules.format 512 image.old label.now).image) ⌝ }
+    ensures { (result ≡ result_of (rules.format 512 image.old label.now).answer) × (image.new ≡ (rules.format 512 image.old label.now).image) }
 {
     of_done(tfs::format(image, label))
 }
@@ -119,7 +121,7 @@ pub extern "C" fn tfs_format(image: &mut [u8], label: &[u8]) -> TfsResult
 // A file of this name and size, all zeros; the value is its inode number.
 #[unsafe(no_mangle)]
 pub extern "C" fn tfs_create(image: &mut [u8], name: &[u8], size: u32) -> TfsResult
-    ensures* { λ r. ⌜ (r ≡ result_of (rules.create 512 image.old name.now size).answer) × (image.new ≡ (rules.create 512 image.old name.now size).image) ⌝ }
+    ensures { (result ≡ result_of (rules.create 512 image.old name.now size).answer) × (image.new ≡ (rules.create 512 image.old name.now size).image) }
 {
     of_answer(tfs::create(image, name, size))
 }
@@ -127,7 +129,7 @@ pub extern "C" fn tfs_create(image: &mut [u8], name: &[u8], size: u32) -> TfsRes
 // Removes the file of this name.
 #[unsafe(no_mangle)]
 pub extern "C" fn tfs_remove(image: &mut [u8], name: &[u8]) -> TfsResult
-    ensures* { λ r. ⌜ (r ≡ result_of (rules.remove 512 image.old name.now).answer) × (image.new ≡ (rules.remove 512 image.old name.now).image) ⌝ }
+    ensures { (result ≡ result_of (rules.remove 512 image.old name.now).answer) × (image.new ≡ (rules.remove 512 image.old name.now).image) }
 {
     of_done(tfs::remove(image, name))
 }
@@ -135,7 +137,7 @@ pub extern "C" fn tfs_remove(image: &mut [u8], name: &[u8]) -> TfsResult
 // Reads from the offset on of the file of this name; the value is the count, and `blocks` in how many content blocks these bytes lie; the rest of the buffer stays.
 #[unsafe(no_mangle)]
 pub extern "C" fn tfs_read(image: &[u8], name: &[u8], offset: u32, buf: &mut [u8]) -> TfsResult
-    ensures* { λ r. ⌜ (r ≡ result_of (rules.read 512 image.now name.now offset buf.old).answer) × (buf.new ≡ (rules.read 512 image.now name.now offset buf.old).buffer) ⌝ }
+    ensures { (result ≡ result_of (rules.read 512 image.now name.now offset buf.old).answer) × (buf.new ≡ (rules.read 512 image.now name.now offset buf.old).buffer) }
 {
     of_transfer(tfs::read(image, name, offset, buf))
 }
@@ -143,7 +145,7 @@ pub extern "C" fn tfs_read(image: &[u8], name: &[u8], offset: u32, buf: &mut [u8
 // Writes into the file of this name from the offset on, as far as it reaches; value and `blocks` as of a read.
 #[unsafe(no_mangle)]
 pub extern "C" fn tfs_write(image: &mut [u8], name: &[u8], offset: u32, buf: &[u8]) -> TfsResult
-    ensures* { λ r. ⌜ (r ≡ result_of (rules.write 512 image.old name.now offset buf.now).answer) × (image.new ≡ (rules.write 512 image.old name.now offset buf.now).image) ⌝ }
+    ensures { (result ≡ result_of (rules.write 512 image.old name.now offset buf.now).answer) × (image.new ≡ (rules.write 512 image.old name.now offset buf.now).image) }
 {
     of_transfer(tfs::write(image, name, offset, buf))
 }
@@ -151,7 +153,7 @@ pub extern "C" fn tfs_write(image: &mut [u8], name: &[u8], offset: u32, buf: &[u
 // The value is 512 times the free blocks.
 #[unsafe(no_mangle)]
 pub extern "C" fn tfs_free_bytes(image: &[u8]) -> TfsResult
-    ensures* { λ r. ⌜ r ≡ result_of (rules.free_answer 512 image.now) ⌝ }
+    ensures { result ≡ result_of (rules.free_answer 512 image.now) }
 {
     of_answer(tfs::free_bytes(image))
 }
@@ -167,7 +169,7 @@ pub extern "C" fn tfs_create_store(
     k: usize,
     buf: &mut [u8],
 ) -> TfsResult
-    ensures* { λ r. ⌜ (r ≡ result_of (rules.fetch 512 image.now (rules.creates name.now size) k buf.old).answer) × (buf.new ≡ (rules.fetch 512 image.now (rules.creates name.now size) k buf.old).buffer) ⌝ }
+    ensures { (result ≡ result_of (rules.fetch 512 image.now (rules.creates name.now size) k buf.old).answer) × (buf.new ≡ (rules.fetch 512 image.now (rules.creates name.now size) k buf.old).buffer) }
 {
     of_answer(tfs::create_store(image, name, size, k, buf))
 }
@@ -175,7 +177,7 @@ pub extern "C" fn tfs_create_store(
 // The k-th store of tfs_remove.
 #[unsafe(no_mangle)]
 pub extern "C" fn tfs_remove_store(image: &[u8], name: &[u8], k: usize, buf: &mut [u8]) -> TfsResult
-    ensures* { λ r. ⌜ (r ≡ result_of (rules.fetch 512 image.now (rules.removes name.now) k buf.old).answer) × (buf.new ≡ (rules.fetch 512 image.now (rules.removes name.now) k buf.old).buffer) ⌝ }
+    ensures { (result ≡ result_of (rules.fetch 512 image.now (rules.removes name.now) k buf.old).answer) × (buf.new ≡ (rules.fetch 512 image.now (rules.removes name.now) k buf.old).buffer) }
 {
     of_answer(tfs::remove_store(image, name, k, buf))
 }
@@ -190,7 +192,7 @@ pub extern "C" fn tfs_write_store(
     k: usize,
     buf: &mut [u8],
 ) -> TfsResult
-    ensures* { λ r. ⌜ (r ≡ result_of (rules.fetch 512 image.now (rules.writes name.now offset bytes.now) k buf.old).answer) × (buf.new ≡ (rules.fetch 512 image.now (rules.writes name.now offset bytes.now) k buf.old).buffer) ⌝ }
+    ensures { (result ≡ result_of (rules.fetch 512 image.now (rules.writes name.now offset bytes.now) k buf.old).answer) × (buf.new ≡ (rules.fetch 512 image.now (rules.writes name.now offset bytes.now) k buf.old).buffer) }
 {
     of_answer(tfs::write_store(image, name, offset, bytes, k, buf))
 }
@@ -198,7 +200,7 @@ pub extern "C" fn tfs_write_store(
 // Clears the set bits of the map that no file claims.
 #[unsafe(no_mangle)]
 pub extern "C" fn tfs_mend(image: &mut [u8]) -> TfsResult
-    ensures* { λ r. ⌜ (r ≡ result_of (rules.mend 512 image.old).answer) × (image.new ≡ (rules.mend 512 image.old).image) ⌝ }
+    ensures { (result ≡ result_of (rules.mend 512 image.old).answer) × (image.new ≡ (rules.mend 512 image.old).image) }
 {
     of_done(tfs::mend(image))
 }
@@ -207,7 +209,7 @@ pub extern "C" fn tfs_mend(image: &mut [u8]) -> TfsResult
 
 // A slot with no file, or the refusal of list.
 fn of_none(refusal: u32, place: u32, name: [u8; 16]) -> TfsSlot
-    ensures* { λ r. ⌜ r ≡ empty_slot refusal place name ⌝ }
+    ensures { result ≡ empty_slot refusal place name }
 {
     TfsSlot {
         refusal: refusal,
@@ -222,7 +224,7 @@ fn of_none(refusal: u32, place: u32, name: [u8; 16]) -> TfsSlot
 
 // A slot with a file.
 fn of_file(len: u32, inode: u32, size: u32, name: [u8; 16]) -> TfsSlot
-    ensures* { λ r. ⌜ r ≡ file_slot len inode size name ⌝ }
+    ensures { result ≡ file_slot len inode size name }
 {
     TfsSlot {
         refusal: 0,
@@ -237,7 +239,7 @@ fn of_file(len: u32, inode: u32, size: u32, name: [u8; 16]) -> TfsSlot
 
 fn of_entry(e: EntryAnswer, name: [u8; 16]) -> TfsSlot
     requires { EntryFits e }
-    ensures* { λ r. ⌜ r ≡ slot_with (entry_told e name) name ⌝ }
+    ensures { result ≡ slot_with (entry_told e name) name }
 {
     match e {
         EntryAnswer::Free => of_none(0, 0, name),
@@ -253,7 +255,7 @@ fn of_entry(e: EntryAnswer, name: [u8; 16]) -> TfsSlot
 // What stands in a slot.
 #[unsafe(no_mangle)]
 pub extern "C" fn tfs_list(image: &[u8], slot: u32) -> TfsSlot
-    ensures* { λ r. ⌜ r ≡ slot_of (rules.list_answer 512 image.now slot) ⌝ }
+    ensures { result ≡ slot_of (rules.list_answer 512 image.now slot) }
 {
     let l = tfs::list(image, slot);
     let entry = l.entry;

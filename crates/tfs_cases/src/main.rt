@@ -1,10 +1,14 @@
 // Runs packed test cases through the requests of TFS and of the timing file, and compares refusal, place, values, name, and the
 // hash of image and buffer afterwards. One line for each case that differs, then the counts. The input is that of host/generate:
 // pack tfs crates/tfs_cases/stdin --seed 1 --cases 700
+#![tactic(auto)]
+
 mod pump; // pump.rt: the requests on the timing file
 
 use crate::pump::{is_timing, timing_read};
 use packed::cases::{Given, Outcome, done, granted, one, refused};
+use std::io;
+use std::io::Read;
 use tfs::{Answer, CheckAnswer, Done, EntryAnswer, Fault, ReplayAnswer, TransferAnswer};
 
 // ---- what the requests give
@@ -120,22 +124,34 @@ fn store(
 }
 
 // The same with k and the bytes read, which stand behind the image.
-fn store_read(given: Given, name: &[u8], buf: &mut [u8], image: &[u8]) -> Outcome {
-    let k = packed::long_number() as usize;
+fn store_read<R: Read>(
+    input: &mut R,
+    given: Given,
+    name: &[u8],
+    buf: &mut [u8],
+    image: &[u8],
+) -> io::Result<Outcome> {
+    let k = packed::long_number(input)? as usize;
     let mut bytes = [0u8; 69632];
-    let n = packed::bytes(&mut bytes);
-    store(given, name, &bytes[0..n], k, buf, image)
+    let n = packed::bytes(input, &mut bytes)?;
+    Ok(store(given, name, &bytes[0..n], k, buf, image))
 }
 
 // What a case's request gives.
-fn outcome(given: Given, name: &[u8], buf: &mut [u8], image: &mut [u8]) -> Outcome {
+fn outcome<R: Read>(
+    input: &mut R,
+    given: Given,
+    name: &[u8],
+    buf: &mut [u8],
+    image: &mut [u8],
+) -> io::Result<Outcome> {
     if is_store(given.request) {
-        return store_read(given, name, buf, image);
+        return store_read(input, given, name, buf, image);
     }
     if is_timing(given.request) {
-        return timing_read(given.request, buf, image);
+        return timing_read(input, given.request, buf, image);
     }
-    request(given, name, buf, image)
+    Ok(request(given, name, buf, image))
 }
 
 fn name_length(e: EntryAnswer) -> usize {
@@ -159,47 +175,73 @@ fn start(name: &[u8; 16], n: usize) -> &[u8] {
 // ---- cases
 
 // Whether a case comes out as expected. Its text is the name that a slot's listing has, and empty for the other requests.
-fn compare(k: u32, given: Given, got: Outcome, image: &[u8], buf: &[u8]) -> bool {
+fn compare<R: Read>(
+    rt: &impl Print,
+    input: &mut R,
+    k: u32,
+    given: Given,
+    got: Outcome,
+    image: &[u8],
+    buf: &[u8],
+) -> io::Result<bool> {
     if given.request != 7 {
-        return packed::cases::comes_out(k, given.request, got, b"", image, buf);
+        return packed::cases::comes_out(rt, input, k, given.request, got, b"", image, buf);
     }
     let listing = tfs::list(image, given.number);
     let entry = listing.entry;
     let name = listing.name;
-    packed::cases::comes_out(k, 7, got, start(&name, name_length(entry)), image, buf)
+    packed::cases::comes_out(
+        rt,
+        input,
+        k,
+        7,
+        got,
+        start(&name, name_length(entry)),
+        image,
+        buf,
+    )
 }
 
 // Case number k, read into what is lent.
-fn case_in(k: u32, name: &mut [u8], buf: &mut [u8], image: &mut [u8]) -> bool {
-    let given = packed::cases::next(name, buf, image);
+fn case_in<R: Read>(
+    rt: &impl Print,
+    input: &mut R,
+    k: u32,
+    name: &mut [u8],
+    buf: &mut [u8],
+    image: &mut [u8],
+) -> io::Result<bool> {
+    let given = packed::cases::next(input, name, buf, image)?;
     let a = given.name;
     let b = given.buf;
     let c = given.image;
-    let got = outcome(given, &name[0..a], &mut buf[0..b], &mut image[0..c]);
-    compare(k, given, got, &image[0..c], &buf[0..b])
+    let got = outcome(input, given, &name[0..a], &mut buf[0..b], &mut image[0..c])?;
+    compare(rt, input, k, given, got, &image[0..c], &buf[0..b])
 }
 
-fn case(k: u32) -> bool {
-    let mut name = io::buffer();
+fn case<R: Read>(rt: &impl Print, input: &mut R, k: u32) -> io::Result<bool> {
+    let mut name = [0u8; 4096];
     let mut buf = [0u8; 69632];
     let mut image = [0u8; 69632];
-    case_in(k, &mut name, &mut buf, &mut image)
+    case_in(rt, input, k, &mut name, &mut buf, &mut image)
 }
 
 // So many cases: how many differ.
-fn cases(count: u32) -> u32 {
+fn cases<R: Read>(rt: &impl Print, input: &mut R, count: u32) -> io::Result<u32> {
     let mut differ: u32 = 0;
     let mut k: u32 = 0;
     while k < count {
         k += 1;
-        if !case(k) {
+        if !case(rt, input, k)? {
             differ += 1;
         }
     }
-    differ
+    Ok(differ)
 }
 
-fn main() {
-    let count = packed::number();
-    packed::lines::totals(count, b" cases, ", cases(count));
+fn main(rt: HostRuntime) -> io::Result<()> {
+    let mut input = rt.reader();
+    let count = packed::number(&mut input)?;
+    let differ = cases(&rt, &mut input, count)?;
+    packed::lines::totals(&rt, count, b" cases, ", differ)
 }

@@ -1,4 +1,6 @@
 // Create and remove on a consistent volume.
+#![tactic(auto)]
+
 ghost use Rattle.std.specs.Prelude.{◌≡◌};
 ghost use Rattle.tfs_spec.specs.Layout.{view};
 ghost use Rattle.tfs_spec.specs.Check.{consistent, check};
@@ -18,7 +20,7 @@ use tfs_steps::erase::erase_file;
 use tfs_steps::place::place_file;
 
 // What a create takes: a slot and so many blocks, the inode's among them, or the refusal's number.
-#[derive(Drop)]
+#[derive(Clone, Copy)]
 pub enum Plan {
     Takes(usize, usize),
     Refused(u32),

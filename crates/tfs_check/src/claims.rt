@@ -31,7 +31,7 @@ fn lower(twice: bool, b: usize, low: usize) -> usize
 }
 
 // The byte of a map that holds the bits of blocks 8 * row to 8 * row + 7, taken out of it to be changed.
-#[derive(Drop)]
+#[derive(Clone, Copy)]
 struct Taken {
     row: usize,
     byte: u8,
@@ -102,7 +102,7 @@ fn fills_row(ino: &[u8], count: usize, n: usize, k: usize, b: usize) -> bool
 }
 
 // What is left to claim of an inode: from number k on; the byte of the last row, and the lowest block claimed twice.
-#[derive(Drop)]
+#[derive(Clone, Copy)]
 struct Turn {
     k: usize,
     byte: u8,
@@ -115,7 +115,8 @@ fn claim_next(ino: &[u8], count: usize, n: usize, k: usize, b: usize, was: u8, l
     ensures { Turned ino.now count n k b was least result.k result.byte result.least }
 {
     if fills_row(ino, count, n, k, b) {
-        if was == 0 {
+        let free = was == 0;
+        if free {
             return Turn {
                 k: k + 8,
                 byte: 255,
@@ -132,7 +133,7 @@ fn claim_next(ino: &[u8], count: usize, n: usize, k: usize, b: usize, was: u8, l
 }
 
 // What claims find: that an inode breaks rule 5, or the lowest block claimed twice so far.
-#[derive(Drop)]
+#[derive(Clone, Copy)]
 enum Claim {
     Wrong,
     Lowest(usize),
@@ -202,7 +203,7 @@ fn claim_slot(image: &[u8], s: usize, n: usize, owned: &mut [u8; BLOCK], low: us
 }
 
 // What the claims of all files find: the first slot that breaks rule 5, or the lowest of n and the blocks claimed twice.
-#[derive(Drop)]
+#[derive(Clone, Copy)]
 pub enum Claims {
     WrongSlot(usize),
     AllMade(usize),

@@ -1,4 +1,6 @@
 // The consistency check of a volume: the first broken rule, at its lowest place.
+#![tactic(auto)]
+
 mod header; // header.rt: rules 2 and 3, the header
 mod files; // files.rt: which slots are free
 mod claims; // claims.rt: rule 5, and the blocks that the files claim
@@ -20,7 +22,7 @@ use tfs_layout::{BLOCK, LOW_END, SLOTS, blocks, dir_of, map_of};
 use tfs_map::compare::first_difference;
 
 // What the check or mend finds: nothing, or the first broken rule and the lowest slot or block that breaks it.
-#[derive(Drop)]
+#[derive(Clone, Copy)]
 pub enum Verdict {
     Consistent,
     Broken(u32, u32),
@@ -36,7 +38,8 @@ fn claim_blocks(image: &[u8], owned: &mut [u8; BLOCK], n: usize) -> Verdict
     match claim_files(image, owned, n) {
         Claims::WrongSlot(s) => Verdict::Broken(5, s as u32),
         Claims::AllMade(twice) => {
-            if twice < n {
+            let found = twice < n;
+            if found {
                 return Verdict::Broken(6, twice as u32);
             }
             Verdict::Consistent

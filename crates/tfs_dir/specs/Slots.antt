@@ -10,7 +10,7 @@ use Rattle.std.proofs.Math.Dec.{eqb}
 use borrow.Author.Tests.{ltb-false, eqb-false}
 use Rattle.list_laws.specs.Least.{least-le}
 use Rattle.lists.specs.Lists.{zero_at, first_zero, up_to_zero, part, same_list}
-use Rattle.list_laws.specs.Part.{length_part, get_d_part, drop-take}
+use Rattle.list_laws.specs.Part.{length_part, get_or-part, drop-take}
 use Rattle.list_laws.specs.Test.{same-eq, to-false, or-no-l, or-no-r}
 use Rattle.tfs_spec.specs.Layout.{slot, slot_name, same_name}
 
@@ -32,7 +32,7 @@ field-part dir s = part-part (s * 20) 20 4 16 dir (omega arith)
 pub first_byte : (dir : List ℕ) (s : ℕ) → get_or (part 4 16 (slot dir s)) 0 0 ≡ get_or dir (s * 20 + 4) 0
 first_byte dir s =
     ap (λ (l : List ℕ). get_or l 0 0) (field-part dir s)
-    ∙ get_d_part (s * 20 + 4) 16 dir 0 (omega arith)
+    ∙ get_or-part (s * 20 + 4) 16 dir 0 (omega arith)
     ∙ ap (λ (i : ℕ). get_or dir i 0) (add-zero (s * 20 + 4))
 
 -- the name of slot s as the front of its field
@@ -85,7 +85,7 @@ module _ (dir : List ℕ) (s : ℕ) (name : List ℕ) (h : length dir ≡ 512) (
       sym
       (ap (λ (x : List ℕ). get_or x (length name - 1) 0) (sym (name-field dir s ∙ e))
       ∙ get_or-take (first_zero field) field (length name - 1) 0 (omega arith)
-      ∙ get_d_part (s * 20 + 4) 16 dir (length name - 1) (omega arith))
+      ∙ get_or-part (s * 20 + 4) 16 dir (length name - 1) (omega arith))
 
   pub last-not : last_same dir s name ≡ false → same_name (slot_name (slot dir s)) name ≡ false
   unfolding last_same same_name

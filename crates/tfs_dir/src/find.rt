@@ -7,6 +7,7 @@ use crate::slots::{name_length, slot_free, slot_named, slot_used};
 use tfs_layout::{NAME_AT, SLOT, SLOTS};
 
 // Whether slot s is taken, under this name.
+#[tactic(auto, unfolding(crate::specs::Find::slot_holds))]
 pub fn slot_holds(dir: &[u8], name: &[u8], s: usize) -> bool
     requires { (length dir.now ≡ 512) × (s < 25) }
     ensures { result ≡ slot_holds dir.now name.now s }

@@ -1,4 +1,6 @@
 // The TFS directory: 25 slots of 20 bytes on a part of 512 bytes.
+#![tactic(auto)]
+
 pub mod names; // names.rt: names as requests and slots have them
 pub mod slots; // slots.rt: one slot
 pub mod find; // find.rt: searches over the slots

@@ -9,7 +9,7 @@ use crate::volume::slot_of;
 use tfs_layout::SLOTS;
 
 // What the lookup of a name gives: the slot of its file, or the refusal's number.
-#[derive(Drop)]
+#[derive(Clone, Copy)]
 pub enum Lookup {
     InSlot(usize),
     Refused(u32),

@@ -15,7 +15,7 @@ use Rattle.std.proofs.Math.Dec.{eqb}
 use borrow.Author.Tests.{ltb-false, eqb-false, ne_eqb}
 use Rattle.lists.specs.Lists.{zeros, part, with_part, store_bytes}
 use Rattle.list_laws.specs.Test.{or-no-l, or-no-r}
-use Rattle.list_laws.specs.Part.{length_part, length-with, get_d_part, get_or-with-in, get_or-with-before, get_or-with-after}
+use Rattle.list_laws.specs.Part.{length_part, length-with, get_or-part, get_or-with-in, get_or-with-before, get_or-with-after}
 use Rattle.list_laws.specs.Store.{length-store, store_at, store_other}
 use Rattle.list_laws.specs.Table.{length-table, get_or-table}
 use Rattle.tfs_spec.specs.Layout.{need, block, set_bits, set_slot, entry, inode_block, View, view, size, number, place}
@@ -166,7 +166,7 @@ module _ (B p o : ℕ) (bs blk : List ℕ) (whole : length blk ≡ B) (starts : 
         let e : r ≡ o - p + i = omega arith in
         ap (λ (x : ℕ). get_or (with_part (o - p) n (part (p - o) n bs) blk) x 0) e
         ∙ get_or-with-in (o - p) n (part (p - o) n bs) blk long fits i m
-        ∙ get_d_part (p - o) n bs i m
+        ∙ get_or-part (p - o) n bs i m
         ∙ ap (λ (x : ℕ). get_or bs x 0) (shift p o r a)
 
 module _ (B : ℕ) (pos : 0 < B) (img : List ℕ) (ok : Sound B (view B img)) (s : ℕ) (f : File B (view B img) s) where

@@ -8,7 +8,7 @@ use native.Mathlib.Omega.{arith}
 use Rattle.std.proofs.Math.ListN.{length, length-drop}
 use Rattle.std.proofs.Math.Dec.{leb→le}
 use Rattle.list_laws.specs.Test.{by-test, cond_yes, cond_no}
-use Rattle.tfs_spec.specs.Traces.{Call, creating, removing, reading, writing, counting, Expected, amount, refusal, Record, Parsed, parsed, malformed, followed, join_groups, read_groups, number_read, read_string, read_create, read_remove, read_read, read_write, read_arguments, read_call, read_result, read_expected, read_record, finished, holds, held_by, read_from}
+use Rattle.tfs_spec.specs.Traces.{Call, creating, removing, reading, writing, counting, Expected, amount, refusal, Record, Parsed, parsed, malformed, followed, join_groups, read_groups, read_number, read_string, read_create, read_remove, read_read, read_write, read_arguments, read_call, read_result, read_expected, read_record, finished, holds, held_by, read_from}
 
 -- ---- one thing behind another
 pub never : {A : Type 0} {x : A} {n : ℕ} → malformed ≡ parsed x n → ⊥
@@ -58,14 +58,14 @@ groups-forward (suc f) at (g ∷ l) n next e = by-test (ltb g 128)
     join-next false false v k e = absurd (never e)
 
 module _ (t : List ℕ) where
-  pub number-forward : (at n next : ℕ) → number_read t at ≡ parsed n next → Forward t at next
-  unfolding number_read
+  pub number-forward : (at n next : ℕ) → read_number t at ≡ parsed n next → Forward t at next
+  unfolding read_number
   number-forward at n next e = let w = groups-forward 5 at (drop at t) n next e in (w.0, omega (arith, length-drop at t))
 
   pub string-forward : (at : ℕ) (bs : List ℕ) (next : ℕ) → read_string t at ≡ parsed bs next → Forward t at next
   unfolding read_string
   string-forward at bs next e =
-      let w = followed-by (number_read t at) _ bs next e in
+      let w = followed-by (read_number t at) _ bs next e in
       let h = number-forward at w.0 w.1 w.2 in
       let c = cond-parsed (leb (w.1 + w.0) (length t)) _ bs next w.3 in
       let s : w.1 + w.0 ≡ next = same_next c.1 in
@@ -76,7 +76,7 @@ module _ (t : List ℕ) where
   unfolding read_create
   create-forward at x next e =
       let a = followed-by (read_string t at) _ x next e in
-      let b = followed-by (number_read t a.1) _ x next a.3 in
+      let b = followed-by (read_number t a.1) _ x next a.3 in
       let s : b.1 ≡ next = same_next b.3 in
       let h = string-forward at a.0 a.1 a.2 in
       let i = number-forward a.1 b.0 b.1 b.2 in
@@ -94,8 +94,8 @@ module _ (t : List ℕ) where
   unfolding read_read
   read-forward at x next e =
       let a = followed-by (read_string t at) _ x next e in
-      let b = followed-by (number_read t a.1) _ x next a.3 in
-      let c = followed-by (number_read t b.1) _ x next b.3 in
+      let b = followed-by (read_number t a.1) _ x next a.3 in
+      let c = followed-by (read_number t b.1) _ x next b.3 in
       let s : c.1 ≡ next = same_next c.3 in
       let h = string-forward at a.0 a.1 a.2 in
       let i = number-forward a.1 b.0 b.1 b.2 in
@@ -106,7 +106,7 @@ module _ (t : List ℕ) where
   unfolding read_write
   write-forward at x next e =
       let a = followed-by (read_string t at) _ x next e in
-      let b = followed-by (number_read t a.1) _ x next a.3 in
+      let b = followed-by (read_number t a.1) _ x next a.3 in
       let c = followed-by (read_string t b.1) _ x next b.3 in
       let s : c.1 ≡ next = same_next c.3 in
       let h = string-forward at a.0 a.1 a.2 in
@@ -117,7 +117,7 @@ module _ (t : List ℕ) where
   call-forward : (at : ℕ) (x : Call) (next : ℕ) → read_call t at ≡ parsed x next → Forward t at next
   unfolding read_call
   call-forward at x next e =
-      let a = followed-by (number_read t at) (read_arguments t) x next e in
+      let a = followed-by (read_number t at) (read_arguments t) x next e in
       let h = number-forward at a.0 a.1 a.2 in
       let i = go (eqb a.0 1) (eqb a.0 2) (eqb a.0 3) (eqb a.0 4) (eqb a.0 5) a.1 h.1 a.3 in
       (omega arith, i.1)
@@ -130,9 +130,9 @@ module _ (t : List ℕ) where
       go false false false false true k h e = let s : k ≡ next = same_next e in (omega arith, omega arith)
       go false false false false false k h e = absurd (never e)
 
-  amount-forward : (at : ℕ) (x : Expected) (next : ℕ) → followed (number_read t at) (λ n k. parsed (amount n) k) ≡ parsed x next → Onward t at next
+  amount-forward : (at : ℕ) (x : Expected) (next : ℕ) → followed (read_number t at) (λ n k. parsed (amount n) k) ≡ parsed x next → Onward t at next
   amount-forward at x next e =
-      let a = followed-by (number_read t at) _ x next e in
+      let a = followed-by (read_number t at) _ x next e in
       let s : a.1 ≡ next = same_next a.3 in
       let i = number-forward at a.0 a.1 a.2 in
       (omega arith, omega arith)
@@ -151,7 +151,7 @@ module _ (t : List ℕ) where
   expected-forward : (c : Call) (at : ℕ) (x : Expected) (next : ℕ) → read_expected c t at ≡ parsed x next → Forward t at next
   unfolding read_expected
   expected-forward c at x next e =
-      let a = followed-by (number_read t at) _ x next e in
+      let a = followed-by (read_number t at) _ x next e in
       let h = number-forward at a.0 a.1 a.2 in
       let i = go (eqb a.0 0) a.0 a.1 h.1 a.3 in
       (omega arith, i.1)

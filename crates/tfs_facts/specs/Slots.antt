@@ -13,7 +13,7 @@ use Rattle.std.proofs.Math.Dec.{eqb, eqb→eq, T_not, not_T}
 use Rattle.lists.specs.Lists.{zeros, zero_at, first_zero, up_to_zero, word}
 use Rattle.list_laws.specs.Test.{zeros-byte, and-of, and_l, and_r, iff-eq, eqb_of, neqb-of}
 use Rattle.list_laws.specs.Least.{least-le, least-hit, least-below, least-none, least-is}
-use Rattle.list_laws.specs.Part.{get_d_part}
+use Rattle.list_laws.specs.Part.{get_or-part}
 use Rattle.tfs_spec.specs.Layout.{slot_inode, name_field, slot_name, slot_free, slot_used, name_formed, in_range}
 
 -- ---- the bytes up to the zero
@@ -175,7 +175,7 @@ pub zero-free : (e : List ℕ) → ((i : ℕ) → i < 5 → get_or e i 0 ≡ 0) 
 unfolding slot_free slot_inode zero_at word
 zero-free e h =
     let i : word e 0 ≡ 0 = omega (arith, h 0 (omega arith), h 1 (omega arith), h 2 (omega arith), h 3 (omega arith)) in
-    and-of (eqb (word e 0) 0) (eqb (get_or (name_field e) 0 0) 0) (eqb_of i) (eqb_of (get_d_part 4 16 e 0 (omega arith) ∙ h 4 (omega arith)))
+    and-of (eqb (word e 0) 0) (eqb (get_or (name_field e) 0 0) 0) (eqb_of i) (eqb_of (get_or-part 4 16 e 0 (omega arith) ∙ h 4 (omega arith)))
 
 pub zeros-free : T (slot_free (zeros 20))
 zeros-free = zero-free (zeros 20) (λ i h. zeros-byte 20 i)

@@ -3,7 +3,7 @@ use Rattle.std.specs.Prelude.{◌≡◌, refl, ◌≢◌, ℕ, zero, suc, ◌+�
 use Rattle.std.proofs.Common.{sym, ap, ◌∙◌, subst, arith}
 use Rattle.std.proofs.lemmas.List.{length-replicate}
 use Rattle.lists.specs.Lists.{zeros}
-use Rattle.list_laws.specs.Part.{length_part, length-with, part-with, part-with-other, get_d_part, get_or-with-after}
+use Rattle.list_laws.specs.Part.{length_part, length-with, part-with, part-with-other, get_or-part, get_or-with-after}
 use Rattle.tfs_spec.specs.Layout.{block, set_block}
 use Rattle.tfs_spec.specs.Requests.{Store, store, store_all, zero_stores}
 use Rattle.tfs_facts.specs.Sizes.{apart-blocks}
@@ -29,7 +29,7 @@ length-block B img b h = length_part (b * B) B img h
 -- a byte of a block
 pub byte_at : (B : ℕ) (img : List ℕ) (b r : ℕ) → r < B → get_or img (b * B + r) 0 ≡ get_or (block B img b) r 0
 unfolding block
-byte_at B img b r h = sym (get_d_part (b * B) B img r h)
+byte_at B img b r h = sym (get_or-part (b * B) B img r h)
 
 -- of a block that is the same in two images
 pub block-byte : (B : ℕ) (a c : List ℕ) (b r : ℕ) → r < B → block B a b ≡ block B c b → get_or a (b * B + r) 0 ≡ get_or c (b * B + r) 0

@@ -1,4 +1,6 @@
 // The numbers of the layout, the blocks of an image as its parts, and in how many blocks bytes of a file lie.
+#![tactic(auto)]
+
 ghost use Rattle.std.specs.Prelude.{◌≡◌, ◌+◌, ◌*◌, ◌≤◌, min, length};
 ghost use Rattle.tfs_spec.specs.Layout.{blocks, block, view};
 ghost use Rattle.tfs_spec.specs.Requests.{blocks_met};

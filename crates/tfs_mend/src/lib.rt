@@ -1,4 +1,6 @@
 // Mend: the set bits of the map that no file claims are cleared.
+#![tactic(auto)]
+
 mod bits; // bits.rt: the bits that two maps do not share
 
 ghost use Rattle.std.specs.Prelude.{◌≡◌, ◌≤◌, length};

@@ -5,7 +5,7 @@ use Rattle.std.proofs.Math.Decide.{ℕ_discrete}
 use Rattle.lists.specs.Lists.{zeros, table, part}
 use Rattle.list_laws.specs.Test.{zeros-byte}
 use Rattle.list_laws.specs.Table.{table-cong, table-get_or}
-use Rattle.list_laws.specs.Part.{length_part, get_d_part}
+use Rattle.list_laws.specs.Part.{length_part, get_or-part}
 use Rattle.tfs_spec.specs.Layout.{BlockSize, slots, block, slot, slot_inode, slot_name, set_bits, map_bit, need, name_allowed, View, view, view_n, free, inode, name, size, number, slot_of, free_slot}
 use Rattle.tfs_spec.specs.Check.{file_claims}
 use Rattle.tfs_spec.specs.Consistent.{Consistent}
@@ -111,7 +111,7 @@ unfolding slot
 slot-zeros B img s l h z =
     let long : length (part (s * 20) 20 (block B img 2)) ≡ 20 = length_part (s * 20) 20 (block B img 2) (omega (arith, length-block B img 2 (removed.low-inside B img l 2 (omega arith)))) in
     ext_get_or 0 (part (s * 20) 20 (block B img 2)) (zeros 20) long
-    (λ i k. get_d_part (s * 20) 20 (block B img 2) i (omega arith) ∙ z i (omega arith) ∙ sym (zeros-byte 20 i))
+    (λ i k. get_or-part (s * 20) 20 (block B img 2) i (omega arith) ∙ z i (omega arith) ∙ sym (zeros-byte 20 i))
 
 -- a slot that was free, and one of zeros, have one inode number and one name
 zeroed-slot : (B : ℕ) (img new : List ℕ) (s : ℕ) → T (free (view B img) s) → slot (block B new 2) s ≡ zeros 20 → SameSlot B new img s

@@ -11,7 +11,7 @@ use Rattle.std.proofs.Math.Dec.{T}
 use Rattle.list_laws.specs.Test.{zeros-byte, by-test, cond_yes, cond_no, and_l, no-and, yes-yes}
 use Rattle.list_laws.specs.Least.{least-all}
 use Rattle.lists.specs.Lists.{zeros, pad_to, part, word, bytes4, with_bit}
-use Rattle.list_laws.specs.Part.{get_d_part}
+use Rattle.list_laws.specs.Part.{get_or-part}
 use Rattle.list_laws.specs.Word.{word-bytes4}
 use Rattle.tfs_spec.specs.Layout.{BlockSize, slots, block, magic, volume_name, map_bit, set_bits, slot, slot_free, label_allowed, same_name, set_bit, View, view, free, name, slot_of, contents}
 use Rattle.tfs_spec.specs.Check.{too_short}
@@ -31,7 +31,7 @@ use Rattle.tfs_facts.specs.FreshMap.{format_map, marked-low, low-marked}
 -- each slot of a directory of zeros is free
 directory-free : (n s : ℕ) → T (slot_free (slot (zeros n) s))
 unfolding slot
-directory-free n s = zero-free (part (s * 20) 20 (zeros n)) (λ i l. get_d_part (s * 20) 20 (zeros n) i (omega arith) ∙ zeros-byte n (s * 20 + i))
+directory-free n s = zero-free (part (s * 20) 20 (zeros n)) (λ i l. get_or-part (s * 20) 20 (zeros n) i (omega arith) ∙ zeros-byte n (s * 20 + i))
 
 -- ---- what format stores
 abbrev format_head : ℕ → List ℕ → List ℕ
@@ -40,7 +40,7 @@ format_head B label = bytes4 magic ++ pad_to (B - 4) label
 -- the zero that ends the label
 head-end : (B : ℕ) (label : List ℕ) → 512 ≤ B → length label < 16 → get_or (volume_name (format_head B label)) (length label) 0 ≡ 0
 head-end B label h l =
-    get_d_part 4 16 (format_head B label) (length label) l
+    get_or-part 4 16 (format_head B label) (length label) l
     ∙ ap (λ (i : ℕ). get_or (format_head B label) i 0) at
     ∙ ap (λ (x : List ℕ). get_or (x ++ zeros (B - 4 - length label)) (length label) 0) (take_all (B - 4) label (omega arith))
     ∙ ap (λ (i : ℕ). get_or (label ++ zeros (B - 4 - length label)) i 0) last

@@ -19,7 +19,7 @@ use Rattle.tfs_facts.specs.Claims.{count-some}
 use Rattle.tfs_facts.specs.CheckMeans.{check-means, same-means}
 use Rattle.tfs_facts.specs.Slots.{used-short, used-named, name-whole}
 use Rattle.tfs_facts.specs.Room.{free-cursor}
-use Rattle.tfs_spec.specs.Requests.{Request, changes, fetches, checks, reads, lists, counts, Change, creates, removes, writes, perform, reply, check_answer, free_answer, Answer, done, value, transferred, unused, file, refused, granted, Outcome, refuse, Lookup, lookup, looked, free_from, chosen, create_view, create, remove_view, remove, counted, transfer_answer, read, write, list_view, list_answer, format, blocks_met}
+use Rattle.tfs_spec.specs.Requests.{Request, changes, fetches, checks, reads, lists, counts, Change, creates, removes, writes, perform, reply, check_answer, free_answer, Answer, done, value, transferred, unused, refused, granted, Outcome, refuse, Lookup, lookup, looked, free_from, chosen, create_view, create, remove_view, remove, counted, transfer_answer, read, write, list_view, list_answer, format, blocks_met}
 use Rattle.tfs_spec.specs.Answers.{LabelRule, NameRule, Stands, Fresh, Vacant, LowestBlock, FindRule, misnamed, absent, found, CreateRule, unnamed, oversized, standing, full, cramped, created, TransferRule, beyond, moved, ListRule, outside, vacant, holds, FormatRule, ChangeRule, short, unlabelled, formatted, Rule}
 use Rattle.tfs_facts.specs.Names.{slot-hit, slot-miss, slot_is, free-hit}
 use Rattle.tfs_proofs.specs.Fetching.{fetch-rule}

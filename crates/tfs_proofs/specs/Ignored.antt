@@ -13,7 +13,7 @@ use Rattle.list_laws.specs.Least.{least-cong}
 use Rattle.list_laws.specs.Sum.{sum-cong}
 use Rattle.list_laws.specs.Table.{table-cong}
 use Rattle.list_laws.specs.Word.{word-cong}
-use Rattle.list_laws.specs.Part.{part-long, get_d_part, part_ext}
+use Rattle.list_laws.specs.Part.{part-long, get_or-part, part_ext}
 use Rattle.tfs_spec.specs.Layout.{BlockSize, slots, numbers, max_size, need, blocks, block, slot, slot_inode, slot_used, in_range, same_name, map_bit, magic, volume_name, name_allowed, inode_size, inode_number, View, view, view_n, inode_at, free, used, inode, name, size, number, slot_of, free_slot, place, free_blocks}
 use Rattle.tfs_spec.specs.Check.{Verdict, consistent, broken, found, too_short, bad_magic, bad_label, repeats, bad_slot, bad_number, bad_inode, file_claims, claims_to, claims, claimed_twice, bad_bit, stray, check_view, check, times}
 use Rattle.tfs_spec.specs.Requests.{Answer, value, transferred, refused, unused, file, granted, checked, Outcome, read_buffer, Lookup, in_slot, denied, lookup, looked, free_from, chosen, create_view, create, remove_view, remove, counted, transfer_answer, read, write, list_view, list_answer, free_answer, refuse, blocks_met}
@@ -231,9 +231,9 @@ module _ (B : ℕ) (Size-ok : BlockSize B) (a b : List ℕ) (same : SameRead B a
       head_byte : (i : ℕ) → i < 20 → get_or (block B a 0) i 0 ≡ get_or (block B b 0) i 0
       head_byte i h =
           ap (λ (x : ℕ). get_or (block B a 0) x 0) (sym (zero-add i))
-          ∙ sym (get_d_part 0 20 (block B a 0) i h)
+          ∙ sym (get_or-part 0 20 (block B a 0) i h)
           ∙ ap (λ (x : List ℕ). get_or x i 0) same.head
-          ∙ get_d_part 0 20 (block B b 0) i h
+          ∙ get_or-part 0 20 (block B b 0) i h
           ∙ ap (λ (x : ℕ). get_or (block B b 0) x 0) (zero-add i)
 
       label_same : volume_name (block B a 0) ≡ volume_name (block B b 0)

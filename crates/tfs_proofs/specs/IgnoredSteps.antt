@@ -13,7 +13,7 @@ use Rattle.std.proofs.Math.Dec.{T, ltb}
 use Rattle.list_laws.specs.Test.{by-test}
 use Rattle.lists.specs.Lists.{store_bytes, part, In}
 use Rattle.list_laws.specs.Part.{part_ext}
-use Rattle.tfs_spec.specs.Layout.{BlockSize, slots, need, blocks, block, slot, map_bit, View, view, inode, size, slot_of, free_slot, place}
+use Rattle.tfs_spec.specs.Layout.{BlockSize, slots, need, blocks, block, slot, map_bit, View, view, size, slot_of, free_slot, place}
 use Rattle.tfs_spec.specs.Check.{Verdict, check, consistent, broken, stray, file_claims, too_short}
 use Rattle.tfs_spec.specs.Consistent.{File, Consistent}
 use Rattle.tfs_facts.specs.CheckMeans.{check-means}

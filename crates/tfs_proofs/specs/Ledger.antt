@@ -1,5 +1,5 @@
 -- Changes of the plain view of a volume at one name; two at different names commute.
-use Rattle.std.specs.Prelude.{◌≡◌, refl, Bool, true, false, cond, ℕ, ◌-◌, List, T}
+use Rattle.std.specs.Prelude.{◌≡◌, refl, Bool, true, false, cond, ℕ, List, T}
 use Rattle.std.proofs.Common.{ap}
 use Rattle.std.proofs.Math.Option.{Option}
 use Rattle.tfs_spec.specs.Layout.{same_name, Contents}

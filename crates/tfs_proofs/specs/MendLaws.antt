@@ -1,5 +1,5 @@
 -- What mend does to an image.
-use Rattle.std.specs.Prelude.{◌≡◌, refl, ◌≢◌, ◌⊎◌, ℕ, ◌*◌, ◌/◌, ◌%◌, ◌≤◌, ◌<◌, List, [], get_or, T}
+use Rattle.std.specs.Prelude.{◌≡◌, refl, ◌≢◌, ◌⊎◌, ℕ, ◌*◌, ◌/◌, ◌%◌, ◌≤◌, ◌<◌, List, get_or, T}
 use Rattle.std.proofs.Common.{sym, ◌∙◌, subst, inl, inr, arith, div-add-mod', mod-lt, div-lt_iff_lt-mul}
 use Rattle.std.proofs.Math.Path.{ap}
 use Rattle.std.proofs.Math.Decide.{dec_le}

@@ -11,7 +11,7 @@ use Rattle.lists.specs.Lists.{word, part, bit_of}
 use Rattle.list_laws.specs.Test.{eqb_of}
 use Rattle.list_laws.specs.Bits.{bit-shift}
 use Rattle.list_laws.specs.Word.{word-cong}
-use Rattle.list_laws.specs.Part.{length_part, get_d_part}
+use Rattle.list_laws.specs.Part.{length_part, get_or-part}
 use Rattle.tfs_spec.specs.Layout.{BlockSize, max_blocks, slots, numbers, blocks, block, slot, slot_inode, slot_name, name_field, volume_name, map_bit, inode_size, inode_number, view, view_n, free, used, inode, name, size, number, place}
 use Rattle.tfs_spec.specs.Consistent.{number_at, Bytes, slot_at, InVolume, EndsAt, LayoutLaws}
 use Rattle.tfs_facts.specs.Raw.{word_number, part-number, head-number, label-byte}
@@ -105,7 +105,7 @@ module _ (B : ℕ) (sz : BlockSize B) (img : List ℕ) (long : 3 * B ≤ length 
         })
         ∙ ext_get_or 0 (take k field) (part (slot_at B s + 4) k img) (l ∙ sym r)
         (λ i h.
-        (get_or-take k field i 0 (omega arith) ∙ field_at i (omega (arith, n.short)) ∙ sym (get_d_part (slot_at B s + 4) k img i (omega arith))))
+        (get_or-take k field i 0 (omega arith) ∙ field_at i (omega (arith, n.short)) ∙ sym (get_or-part (slot_at B s + 4) k img i (omega arith))))
 
     -- ---- its inode
     module _ (there : InVolume B img (inode (view B img) s)) where

@@ -4,7 +4,7 @@ use Rattle.std.proofs.Math.Path.{sym}
 use Rattle.std.proofs.Common.{ap, ◌∙◌, subst, arith}
 use Rattle.list_laws.specs.Test.{by-test}
 use Rattle.list_laws.specs.Part.{part_ext}
-use Rattle.tfs_spec.specs.Layout.{slots, need, blocks, block, slot, View, view, free, inode, size, number, place}
+use Rattle.tfs_spec.specs.Layout.{slots, need, blocks, block, View, view, free, inode, size, number, place}
 use Rattle.tfs_spec.specs.Consistent.{File, inode_of, content_of, Owns, Inside, Sound}
 use Rattle.tfs_facts.specs.Sizes.{split-block, split-offset, rejoin, in-need, in_block, in_image}
 use Rattle.tfs_facts.specs.Mends.{with_map, view-like}

@@ -34,7 +34,7 @@ use Rattle.tfs_proofs.specs.MendLaws.{mend-law}
 use Rattle.tfs_proofs.specs.Storing.{store-law}
 use Rattle.tfs_proofs.specs.Cutting.{cut-law}
 use Rattle.tfs_proofs.specs.Inodes.{inode-law}
-use Rattle.tfs_proofs.specs.TraceNumbers.{number-form, number_short, read_number}
+use Rattle.tfs_proofs.specs.TraceNumbers.{number-form, number_short, read-number}
 use Rattle.tfs_proofs.specs.TraceRecords.{read-string, read-record}
 use Rattle.tfs_proofs.specs.TraceLists as lists
 use Rattle.tfs_proofs.specs.TraceLists.{written_read, read-written, read-spoiled, positions, written, refused-33, written_all, numbers_fit}
@@ -158,7 +158,7 @@ statements =
         example = lists.example;
         number-form = number-form;
         number_short = number_short;
-        read_number = read_number;
+        read-number = read-number;
         read-string = read-string;
         read-record = read-record;
         written_read = written_read;

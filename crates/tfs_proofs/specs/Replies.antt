@@ -191,7 +191,7 @@ ignored-all B sz a b same xs x = ignored-any B sz (after_all B a xs) (after_all 
 pub ignored-reads : (B : ℕ) → BlockSize B → (a b : List ℕ) → SameRead B a b → (xs : List Operation) (nm : List ℕ) (o : ℕ) (buf : List ℕ) → (read B (after_all B a xs) nm o buf).buffer ≡ (read B (after_all B b xs) nm o buf).buffer
 ignored-reads B sz a b same xs nm o buf = ((ignored B sz (after_all B a xs) (after_all B b xs) (same-after-all B sz a b same xs)).read_same nm o buf).1
 
--- ---- bytes from B-as-N on
+-- ---- bytes from B·N on
 change-tail : (B : ℕ) → BlockSize B → (img : List ℕ) (c : Change) → Beyond B img (perform B img c).image
 unfolding perform
 change-tail B sz img (creates nm z) = (tail-kept sz img).created nm z

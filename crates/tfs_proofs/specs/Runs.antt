@@ -9,7 +9,7 @@ use native.Mathlib.Omega.{arith}
 use Rattle.tfs_spec.specs.Layout.{BlockSize, contents}
 use Rattle.tfs_spec.specs.Check.{Verdict, consistent, broken, check}
 use Rattle.tfs_spec.specs.Requests.{checked, requests, after_all}
-use Rattle.tfs_spec.specs.Traces.{Call, creating, removing, writing, Record, Trace, finished, spoiled, holds, read_trace}
+use Rattle.tfs_spec.specs.Traces.{Call, creating, removing, reading, writing, counting, Record, Trace, finished, spoiled, holds, read_trace}
 use Rattle.tfs_spec.specs.Histories.{Never, ChangesName, changed}
 use Rattle.tfs_spec.specs.Replays.{request_of, run, agrees, differs_at, denied, Replay, replay_of, replay_on, replay, after_calls, calls_of, named, records_of, ran_count, ran, Unnamed}
 use Rattle.tfs_proofs.specs.Histories.{history-law}
@@ -61,6 +61,8 @@ module _ (B : ℕ) where
     names img (creating k z) (changed c same g) = same
     names img (removing k) (changed c same g) = same
     names img (writing k o bs) (changed c same g) = same
+    names img (reading _ _ _) x = elim x [ ]
+    names img counting x = elim x [ ]
 
     unnamed : (n : ℕ) (rs : List Record) (img : List ℕ) → Unnamed nm rs → Never B (ChangesName B nm) img (map (λ c. requests (request_of c)) (take n (calls_of rs)))
     unnamed zero rs img h = tt

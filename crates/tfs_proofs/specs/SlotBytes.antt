@@ -1,7 +1,7 @@
 -- The bytes of slots in two directories.
 use Rattle.std.specs.Prelude.{◌≡◌, ◌≢◌, ◌⊎◌, ℕ, ◌+◌, ◌*◌, ◌≤◌, ◌<◌, List, length, get_or}
 use Rattle.std.proofs.Common.{sym, ap, ◌∙◌, inl, inr, ⊎_elim, arith}
-use Rattle.list_laws.specs.Part.{get_d_part, part_ext}
+use Rattle.list_laws.specs.Part.{get_or-part, part_ext}
 use Rattle.tfs_spec.specs.Layout.{slots, block, slot, slot_inode, name_field, slot_name, view, view_n, inode, name}
 use Rattle.tfs_spec.specs.Consistent.{slot_at}
 use Rattle.tfs_spec.specs.Effects.{SameSlot}
@@ -13,12 +13,12 @@ use Rattle.tfs_proofs.specs.Removes.{low-inside}
 pub slot-byte : (B : ℕ) (img : List ℕ) (s j : ℕ) → s < slots B → j < 20 → get_or (slot (block B img 2) s) j 0 ≡ get_or img (slot_at B s + j) 0
 unfolding slot
 slot-byte B img s j low h =
-    get_d_part (s * 20) 20 (block B img 2) j h ∙ sym (byte_at B img 2 (s * 20 + j) (omega arith)) ∙ ap (λ (q : ℕ). get_or img q 0) (omega arith)
+    get_or-part (s * 20) 20 (block B img 2) j h ∙ sym (byte_at B img 2 (s * 20 + j) (omega arith)) ∙ ap (λ (q : ℕ). get_or img q 0) (omega arith)
 
 -- name byte i of slot s
 pub field-byte : (B : ℕ) (img : List ℕ) (s i : ℕ) → s < slots B → i < 16 → get_or (name_field (slot (block B img 2) s)) i 0 ≡ get_or img (slot_at B s + 4 + i) 0
 field-byte B img s i low h =
-    get_d_part 4 16 (slot (block B img 2) s) i h ∙ slot-byte B img s (4 + i) low (omega arith) ∙ ap (λ (q : ℕ). get_or img q 0) (omega arith)
+    get_or-part 4 16 (slot (block B img 2) s) i h ∙ slot-byte B img s (4 + i) low (omega arith) ∙ ap (λ (q : ℕ). get_or img q 0) (omega arith)
 
 -- slots of which each byte is the same
 pub slot-ext : (t : ℕ) (x y : List ℕ) → length x ≡ length y → ((i : ℕ) → i < 20 → get_or x (t * 20 + i) 0 ≡ get_or y (t * 20 + i) 0) → slot x t ≡ slot y t

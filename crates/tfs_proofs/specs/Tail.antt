@@ -13,7 +13,7 @@ use Rattle.list_laws.specs.Test.{by-test, and_r, cond_yes, cond_no, iff-eq}
 use Rattle.lists.specs.Lists.{table, store_bytes, with_part}
 use Rattle.list_laws.specs.Table.{table-cong}
 use Rattle.list_laws.specs.Store.{length-store}
-use Rattle.list_laws.specs.Part.{get_d_part, get_or-with-in, get_or-with-before, get_or-with-after}
+use Rattle.list_laws.specs.Part.{get_or-part, get_or-with-in, get_or-with-before, get_or-with-after}
 use Rattle.tfs_spec.specs.Layout.{BlockSize, slots, blocks, block, set_block, slot, slot_inode, in_range, label_allowed, View, view, view_n, inode_at, size as file_size, number, place, free_blocks}
 use Rattle.tfs_spec.specs.Check.{Verdict, consistent, broken, check, check_view, too_short}
 use Rattle.tfs_spec.specs.Consistent.{Sound}
@@ -201,9 +201,9 @@ module _ {B : ℕ} (size : BlockSize B) (a b : List ℕ) (same : SameVolume B a 
       let lb : length (block B b i) ≡ B = length-block B b i (in_image B i b (subst (λ (n : ℕ). i < n) same.n h)) in
       ext_get_or 0 (block B a i) (block B b i) (la ∙ sym lb)
       (λ j l.
-      get_d_part (i * B) B a j (omega arith)
+      get_or-part (i * B) B a j (omega arith)
       ∙ same.bytes (i * B + j) (omega (arith, after_block B i (blocks B a) h))
-      ∙ sym (get_d_part (i * B) B b j (omega arith)))
+      ∙ sym (get_or-part (i * B) B b j (omega arith)))
 
   -- every block that a view holds lies below N
   pub view-same : 3 * B ≤ length a → view B a ≡ view B b

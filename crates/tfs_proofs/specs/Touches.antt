@@ -11,7 +11,7 @@ use Rattle.list_laws.specs.Test.{to-true}
 use Rattle.list_laws.specs.Least.{least-below}
 use Rattle.lists.specs.Lists.{zeros, In}
 use Rattle.list_laws.specs.Part.{get_or-with-in, get_or-with-before, get_or-with-after}
-use Rattle.tfs_spec.specs.Layout.{BlockSize, slots, need, block, map_bit, slot, set_slot, entry, inode_size, inode_number, inode_block, View, view, free, inode, size, slot_of, free_slot}
+use Rattle.tfs_spec.specs.Layout.{BlockSize, slots, need, block, map_bit, slot, set_slot, entry, inode_size, inode_number, inode_block, View, view, free, slot_of, free_slot}
 use Rattle.tfs_spec.specs.Check.{file_claims}
 use Rattle.tfs_spec.specs.Consistent.{File, Owner, inode_of, content_of, Owns, Consistent}
 use Rattle.tfs_facts.specs.Claims.{slot_in}

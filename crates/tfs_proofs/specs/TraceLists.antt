@@ -8,7 +8,7 @@ use Rattle.lists.specs.Lists.{part}
 use Rattle.list_laws.specs.Test.{by-test, cond_yes, and-of, and_l, and_r}
 use Rattle.tfs_spec.specs.Consistent.{Bytes}
 use Rattle.tfs_spec.specs.Requests.{value, refused, granted, count_of}
-use Rattle.tfs_spec.specs.Traces.{groups, read_call, read_expected, number_read, read_string, read_groups, read_create, read_remove, read_read, read_write, example_bytes, example_records, Record, record_bytes, trace_bytes, all_below, call_numbers, expected_numbers, all_numbers_fit, Written, WrittenAtStart, not_written, write_record, write_all, Parsed, parsed, malformed, read_record, Trace, finished, spoiled, holds, held_by, read_from, read_trace, StandsAt, Recordable, AllRecordable, holds_all, NoRecord}
+use Rattle.tfs_spec.specs.Traces.{groups, read_call, read_expected, read_number, read_string, read_groups, read_create, read_remove, read_read, read_write, example_bytes, example_records, Record, record_bytes, trace_bytes, all_below, call_numbers, expected_numbers, all_numbers_fit, Written, WrittenAtStart, not_written, write_record, write_all, Parsed, parsed, malformed, read_record, Trace, finished, spoiled, holds, held_by, read_from, read_trace, StandsAt, Recordable, AllRecordable, holds_all, NoRecord}
 use Rattle.tfs_facts.specs.Forward.{never, record-forward, from_end, from_step}
 use Rattle.tfs_proofs.specs.TraceNumbers.{stands}
 use Rattle.tfs_proofs.specs.TraceRecords.{split-here, join-here, record-reads, record-so}
@@ -279,5 +279,5 @@ numbers_fit r =
     )
 
 pub example : (trace_bytes example_records ≡ example_bytes) × (read_trace example_bytes ≡ holds_all example_records finished)
-unfolding groups read_trace read_from read_record read_call read_expected number_read read_string read_groups read_create read_remove read_read read_write part
+unfolding groups read_trace read_from read_record read_call read_expected read_number read_string read_groups read_create read_remove read_read read_write part
 example = (refl, refl)

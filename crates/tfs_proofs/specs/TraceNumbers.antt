@@ -5,7 +5,7 @@ use Rattle.std.proofs.Math.Nat.{one-le-pow}
 use Rattle.std.proofs.lemmas.Bool.{eqb-false}
 use Rattle.std.proofs.Math.Seq.{drop-append_seam}
 use Rattle.tfs_spec.specs.Consistent.{Bytes}
-use Rattle.tfs_spec.specs.Traces.{groups, number, Parsed, parsed, malformed, followed, join_groups, read_groups, number_read, worth, NumberForm, StandsAt}
+use Rattle.tfs_spec.specs.Traces.{groups, number, Parsed, parsed, malformed, followed, join_groups, read_groups, read_number, worth, NumberForm, StandsAt}
 use Rattle.tfs_facts.specs.Forward.{never, same_next, same-what}
 
 groups-low : (f n : ℕ) → n < 128 → groups (suc f) n ≡ n ∷ []
@@ -48,8 +48,8 @@ groups-back : (f at n : ℕ) (post : List ℕ) → n < 128 ^ f → 0 < f → n <
 groups-back zero at n post h pos small = absurd (omega arith)
 groups-back (suc f) at n post h pos small = back_by f at n post h small (ltb n 128) refl (λ k p q r. groups-back f (at + 1) k post p q r)
 
-pub number-reads : (n : ℕ) → n < 4294967296 → (t : List ℕ) (at next : ℕ) → StandsAt t at (number n) next → number_read t at ≡ parsed n next
-unfolding number_read
+pub number-reads : (n : ℕ) → n < 4294967296 → (t : List ℕ) (at next : ℕ) → StandsAt t at (number n) next → read_number t at ≡ parsed n next
+unfolding read_number
 number-reads n h t at next s = ap (read_groups 5 at) s.here ∙ groups-back 5 at n (drop next t) (omega arith) (omega arith) h ∙ ap (parsed n) (sym s.ends)
 
 -- ---- what is read was written so
@@ -107,14 +107,14 @@ stands t at next bs rest e q = record { here = e ∙ ap (λ (x : List ℕ). bs +
     behind : drop next t ≡ rest
     behind = ap (λ (k : ℕ). drop k t) q ∙ sym (drop-drop (length bs) at t) ∙ ap (drop (length bs)) e ∙ drop-append_seam bs rest
 
-pub number-so : (t : List ℕ) → Bytes t → (at n next : ℕ) → number_read t at ≡ parsed n next → (n < 4294967296) × StandsAt t at (number n) next
-unfolding number_read
+pub number-so : (t : List ℕ) → Bytes t → (at n next : ℕ) → read_number t at ≡ parsed n next → (n < 4294967296) × StandsAt t at (number n) next
+unfolding read_number
 number-so t small at n next e =
     let w = groups-so 5 at n next (drop at t) (λ i. subst (λ (x : ℕ). x < 256) (sym (get_or-drop at t i 0)) (small (at + i))) e in
     (w.small, stands t at next (number n) w.rest w.bytes w.ends)
 
-pub read_number : (t : List ℕ) → Bytes t → (at n next : ℕ) → (number_read t at ≡ parsed n next) ↔ ((n < 4294967296) × StandsAt t at (number n) next)
-read_number t small at n next = (number-so t small at n next, λ w. number-reads n w.0 t at next w.1)
+pub read-number : (t : List ℕ) → Bytes t → (at n next : ℕ) → (read_number t at ≡ parsed n next) ↔ ((n < 4294967296) × StandsAt t at (number n) next)
+read-number t small at n next = (number-so t small at n next, λ w. number-reads n w.0 t at next w.1)
 
 -- ---- the form of a number
 -- as NumberForm, of at most f groups

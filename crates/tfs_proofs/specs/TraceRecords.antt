@@ -11,7 +11,7 @@ use Rattle.std.proofs.Math.Dec.{eqb}
 use Rattle.lists.specs.Lists.{part}
 use Rattle.list_laws.specs.Test.{cond_yes, and-of, and_l, and_r, of-true}
 use Rattle.tfs_spec.specs.Consistent.{Bytes}
-use Rattle.tfs_spec.specs.Traces.{Call, creating, removing, reading, writing, counting, Expected, nothing, bytes, amount, refusal, Record, record_of, number, string, call_bytes, expected_bytes, record_bytes, all_below, call_numbers, expected_numbers, all_numbers_fit, Parsed, parsed, malformed, followed, number_read, read_string, read_create, read_remove, read_read, read_write, read_arguments, read_call, read_result, read_expected, read_record, StandsAt, Fitting, of-create, of-remove, of-read, of-write, of-count, of-refusal, Recordable}
+use Rattle.tfs_spec.specs.Traces.{Call, creating, removing, reading, writing, counting, Expected, nothing, bytes, amount, refusal, Record, record_of, number, string, call_bytes, expected_bytes, record_bytes, all_below, call_numbers, expected_numbers, all_numbers_fit, Parsed, parsed, malformed, followed, read_number, read_string, read_create, read_remove, read_read, read_write, read_arguments, read_call, read_result, read_expected, read_record, StandsAt, Fitting, of-create, of-remove, of-read, of-write, of-count, of-refusal, Recordable}
 use Rattle.tfs_facts.specs.Forward.{never, same_next, same-what, followed-by, cond-parsed, number-forward}
 use Rattle.tfs_proofs.specs.TraceNumbers.{number-reads, stands, number-so}
 
@@ -46,7 +46,7 @@ unfolding read_string part
 string-reads bs h t at next s =
     let w = split-here t at next (number (length bs)) bs s in
     let a : ℕ = at + length (number (length bs)) in
-    let e : number_read t at ≡ parsed (length bs) a = number-reads (length bs) h t at a w.0 in
+    let e : read_number t at ≡ parsed (length bs) a = number-reads (length bs) h t at a w.0 in
     let m = number-forward t at (length bs) a e in
     let l : length t - a ≡ length bs + length (drop next t) = sym (length-drop a t) ∙ ap length w.1.here ∙ length-append bs (drop next t) in
     let i : a + length bs ≤ length t = omega arith in
@@ -58,7 +58,7 @@ string-reads bs h t at next s =
 string-so : (t : List ℕ) → Bytes t → (at : ℕ) (bs : List ℕ) (next : ℕ) → read_string t at ≡ parsed bs next → (length bs < 4294967296) × StandsAt t at (string bs) next
 unfolding read_string part
 string-so t small at bs next e =
-    let w = followed-by (number_read t at) _ bs next e in
+    let w = followed-by (read_number t at) _ bs next e in
     let n : ℕ = w.0 in
     let a : ℕ = w.1 in
     let k = number-so t small at n a w.2 in
@@ -87,7 +87,7 @@ of-small n ns h t = and-of (ltb n 4294967296) (all_below ns) (lt→ltb n 4294967
 module _ (nm : List ℕ) where
   create-reads : (z : ℕ) → Small (length nm) → Small z → Reads read_create (creating nm z) (string nm ++ number z)
   unfolding read_create
-  create-reads z h i = reads_then read_string (λ m t a. followed (number_read t a) (λ y b. parsed (creating m y) b)) nm (creating nm z) (string nm) (number z) (string-reads nm h) (reads-last number_read (creating nm) z (number z) (number-reads z i))
+  create-reads z h i = reads_then read_string (λ m t a. followed (read_number t a) (λ y b. parsed (creating m y) b)) nm (creating nm z) (string nm) (number z) (string-reads nm h) (reads-last read_number (creating nm) z (number z) (number-reads z i))
 
   remove-reads : Small (length nm) → Reads read_remove (removing nm) (string nm)
   unfolding read_remove
@@ -95,18 +95,18 @@ module _ (nm : List ℕ) where
 
   read-reads : (o len : ℕ) → Small (length nm) → Small o → Small len → Reads read_read (reading nm o len) (string nm ++ (number o ++ number len))
   unfolding read_read
-  read-reads o len h i j = reads_then read_string (λ m t a. followed (number_read t a) (λ y b. followed (number_read t b) (λ x c. parsed (reading m y x) c))) nm (reading nm o len) (string nm) (number o ++ number len) (string-reads nm h)
-      (reads_then number_read (λ y t b. followed (number_read t b) (λ x c. parsed (reading nm y x) c)) o (reading nm o len) (number o) (number len) (number-reads o i) (reads-last number_read (reading nm o) len (number len) (number-reads len j)))
+  read-reads o len h i j = reads_then read_string (λ m t a. followed (read_number t a) (λ y b. followed (read_number t b) (λ x c. parsed (reading m y x) c))) nm (reading nm o len) (string nm) (number o ++ number len) (string-reads nm h)
+      (reads_then read_number (λ y t b. followed (read_number t b) (λ x c. parsed (reading nm y x) c)) o (reading nm o len) (number o) (number len) (number-reads o i) (reads-last read_number (reading nm o) len (number len) (number-reads len j)))
 
   write-reads : (o : ℕ) (bs : List ℕ) → Small (length nm) → Small o → Small (length bs) → Reads read_write (writing nm o bs) (string nm ++ (number o ++ string bs))
   unfolding read_write
-  write-reads o bs h i j = reads_then read_string (λ m t a. followed (number_read t a) (λ y b. followed (read_string t b) (λ x c. parsed (writing m y x) c))) nm (writing nm o bs) (string nm) (number o ++ string bs) (string-reads nm h)
-      (reads_then number_read (λ y t b. followed (read_string t b) (λ x c. parsed (writing nm y x) c)) o (writing nm o bs) (number o) (string bs) (number-reads o i) (reads-last read_string (writing nm o) bs (string bs) (string-reads bs j)))
+  write-reads o bs h i j = reads_then read_string (λ m t a. followed (read_number t a) (λ y b. followed (read_string t b) (λ x c. parsed (writing m y x) c))) nm (writing nm o bs) (string nm) (number o ++ string bs) (string-reads nm h)
+      (reads_then read_number (λ y t b. followed (read_string t b) (λ x c. parsed (writing nm y x) c)) o (writing nm o bs) (number o) (string bs) (number-reads o i) (reads-last read_string (writing nm o) bs (string bs) (string-reads bs j)))
 
 -- the kind, then the arguments
 kind-reads : (k : ℕ) → Small k → (c : Call) (bs : List ℕ) → Reads (λ t at. read_arguments t k at) c bs → Reads read_call c (number k ++ bs)
 unfolding read_call
-kind-reads k h c bs f = reads_then number_read (λ x t a. read_arguments t x a) k c (number k) bs (number-reads k h) f
+kind-reads k h c bs f = reads_then read_number (λ x t a. read_arguments t x a) k c (number k) bs (number-reads k h) f
 
 call-reads : (c : Call) → T (all_below (call_numbers c)) → Reads read_call c (call_bytes c)
 unfolding read_call
@@ -124,15 +124,15 @@ call-reads counting h = λ t at next s. ap (λ (z : Parsed ℕ). followed z (rea
 -- granted, then the result
 result-reads : (c : Call) (e : Expected) (bs : List ℕ) → Reads (read_result c) e bs → Reads (read_expected c) e (number 0 ++ bs)
 unfolding read_expected
-result-reads c e bs f = reads_then number_read (λ n t a. cond (eqb n 0) (read_result c t a) (parsed (refusal n) a)) 0 e (number 0) bs (number-reads 0 (omega arith)) f
+result-reads c e bs f = reads_then read_number (λ n t a. cond (eqb n 0) (read_result c t a) (parsed (refusal n) a)) 0 e (number 0) bs (number-reads 0 (omega arith)) f
 
 expected-reads : (c : Call) (e : Expected) → Fitting c e → T (all_below (expected_numbers e)) → Reads (read_expected c) e (expected_bytes e)
 unfolding read_expected
 expected-reads _ _ (of-create nm z) h = λ t at next s. ap (λ (x : Parsed ℕ). followed x (λ n a. cond (eqb n 0) (parsed nothing a) (parsed (refusal n) a))) (number-reads 0 (omega arith) t at next s)
 expected-reads _ _ (of-remove nm) h = λ t at next s. ap (λ (x : Parsed ℕ). followed x (λ n a. cond (eqb n 0) (parsed nothing a) (parsed (refusal n) a))) (number-reads 0 (omega arith) t at next s)
 expected-reads _ _ (of-read nm o len bs) h = result-reads (reading nm o len) (bytes bs) (string bs) (reads-last read_string bytes bs (string bs) (string-reads bs (small_of (length bs) [] h).0))
-expected-reads _ _ (of-write nm o bs n) h = result-reads (writing nm o bs) (amount n) (number n) (reads-last number_read amount n (number n) (number-reads n (small_of n [] h).0))
-expected-reads _ _ (of-count n) h = result-reads counting (amount n) (number n) (reads-last number_read amount n (number n) (number-reads n (small_of n [] h).0))
+expected-reads _ _ (of-write nm o bs n) h = result-reads (writing nm o bs) (amount n) (number n) (reads-last read_number amount n (number n) (number-reads n (small_of n [] h).0))
+expected-reads _ _ (of-count n) h = result-reads counting (amount n) (number n) (reads-last read_number amount n (number n) (number-reads n (small_of n [] h).0))
 expected-reads _ _ (of-refusal c n z) h = λ t at next s.
     ap (λ (x : Parsed ℕ). followed x (λ m a. cond (eqb m 0) (read_result c t a) (parsed (refusal m) a))) (number-reads n (small_of n [] h).0 t at next s)
     ∙ rw (ne_eqb n 0 z)
@@ -157,7 +157,7 @@ module _ (t : List ℕ) (small : Bytes t) where
     unfolding read_create
     create-so k c next e =
         let p = followed-by (read_string t a) _ c next e in
-        let q = followed-by (number_read t p.1) _ c next p.3 in
+        let q = followed-by (read_number t p.1) _ c next p.3 in
         let nm = string-so t small a p.0 p.1 p.2 in
         let z = number-so t small p.1 q.0 q.1 q.2 in
         let u = join-here t at a q.1 (number 1) (string p.0 ++ number q.0) k (join-here t a p.1 q.1 (string p.0) (number q.0) nm.1 z.1) in
@@ -176,8 +176,8 @@ module _ (t : List ℕ) (small : Bytes t) where
     unfolding read_read
     read-so k c next e =
         let p = followed-by (read_string t a) _ c next e in
-        let q = followed-by (number_read t p.1) _ c next p.3 in
-        let r = followed-by (number_read t q.1) _ c next q.3 in
+        let q = followed-by (read_number t p.1) _ c next p.3 in
+        let r = followed-by (read_number t q.1) _ c next q.3 in
         let nm = string-so t small a p.0 p.1 p.2 in
         let o = number-so t small p.1 q.0 q.1 q.2 in
         let len = number-so t small q.1 r.0 r.1 r.2 in
@@ -190,7 +190,7 @@ module _ (t : List ℕ) (small : Bytes t) where
     unfolding read_write
     write-so k c next e =
         let p = followed-by (read_string t a) _ c next e in
-        let q = followed-by (number_read t p.1) _ c next p.3 in
+        let q = followed-by (read_number t p.1) _ c next p.3 in
         let r = followed-by (read_string t q.1) _ c next q.3 in
         let nm = string-so t small a p.0 p.1 p.2 in
         let o = number-so t small p.1 q.0 q.1 q.2 in
@@ -221,7 +221,7 @@ module _ (t : List ℕ) (small : Bytes t) where
   call-so : (at : ℕ) (c : Call) (next : ℕ) → read_call t at ≡ parsed c next → CallThere at c next
   unfolding read_call
   call-so at c next e =
-      let p = followed-by (number_read t at) (read_arguments t) c next e in
+      let p = followed-by (read_number t at) (read_arguments t) c next e in
       kind-so at p.1 p.0 (number-so t small at p.0 p.1 p.2).1 c next p.3
 
   -- the expected answer e of a call, from position at up to next
@@ -241,9 +241,9 @@ module _ (t : List ℕ) (small : Bytes t) where
         let w : ExpectedThere at c (bytes p.0) p.1 = record { fitting = f p.0; below = of-small (length p.0) [] bs.0 tt; there = join-here t at a p.1 (number 0) (string p.0) k bs.1 } in
         carried (ExpectedThere at c) p.3 w
 
-    amount-so : (c : Call) → ((n : ℕ) → Fitting c (amount n)) → (e : Expected) (next : ℕ) → followed (number_read t a) (λ x n. parsed (amount x) n) ≡ parsed e next → ExpectedThere at c e next
+    amount-so : (c : Call) → ((n : ℕ) → Fitting c (amount n)) → (e : Expected) (next : ℕ) → followed (read_number t a) (λ x n. parsed (amount x) n) ≡ parsed e next → ExpectedThere at c e next
     amount-so c f e next q =
-        let p = followed-by (number_read t a) _ e next q in
+        let p = followed-by (read_number t a) _ e next q in
         let x = number-so t small a p.0 p.1 p.2 in
         let w : ExpectedThere at c (amount p.0) p.1 = record { fitting = f p.0; below = of-small p.0 [] x.0 tt; there = join-here t at a p.1 (number 0) (number p.0) k x.1 } in
         carried (ExpectedThere at c) p.3 w
@@ -258,7 +258,7 @@ module _ (t : List ℕ) (small : Bytes t) where
   expected-so : (c : Call) (at : ℕ) (e : Expected) (next : ℕ) → read_expected c t at ≡ parsed e next → ExpectedThere at c e next
   unfolding read_expected
   expected-so c at e next q =
-      let p = followed-by (number_read t at) _ e next q in
+      let p = followed-by (read_number t at) _ e next q in
       let x = number-so t small at p.0 p.1 p.2 in
       go (eqb p.0 0) p.0 p.1 refl x.0 x.1 p.3
     where

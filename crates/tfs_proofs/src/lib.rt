@@ -1,1 +1,2 @@
 // Proofs of the statements of tfs_spec. No code: see specs/.
+#![tactic(auto)]

@@ -1,4 +1,6 @@
 // Replay of a trace on a consistent volume: its requests one after another, each answer against the one expected. The volume stays consistent, so the check is not run again.
+#![tactic(auto)]
+
 mod agree; // agree.rt: an answer against the one expected
 mod run; // run.rt: one record
 
@@ -12,7 +14,7 @@ use crate::run::run_record;
 use tfs_trace::{Cursor, RecordRead};
 
 // What replay comes to: all records replayed, so many; or the number, from 1, of the record at which it stops.
-#[derive(Drop)]
+#[derive(Clone, Copy)]
 pub enum Replayed {
     All(usize),
     Malformed(usize),

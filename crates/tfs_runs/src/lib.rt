@@ -1,4 +1,6 @@
 // Bytes moved between a buffer and the blocks of a file, given by the bytes of its inode. Every step moves a run: bytes that lie one after another.
+#![tactic(auto)]
+
 mod run; // run.rt: where a run lies and how long it is
 pub mod read; // read.rt: from the blocks to a buffer
 pub mod write; // write.rt: from a buffer to the blocks

@@ -8,7 +8,7 @@ use tfs_inode::read::block_number;
 use tfs_layout::{BLOCK, smaller};
 
 // Where a run begins in the image, its length in bytes, and the number of the block behind it, if bytes are left.
-#[derive(Drop)]
+#[derive(Clone, Copy)]
 pub struct Run {
     pub at: usize,
     pub len: usize,

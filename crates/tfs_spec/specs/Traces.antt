@@ -134,27 +134,27 @@ read_groups zero at l = malformed
 read_groups (suc f) at [] = malformed
 read_groups (suc f) at (g ∷ l) = cond (ltb g 128) (parsed g (at + 1)) (followed (read_groups f (at + 1) l) (join_groups (g - 128)))
 
-unfoldable pub number_read : List ℕ → ℕ → Parsed ℕ
-number_read t at = read_groups 5 at (drop at t)
+unfoldable pub read_number : List ℕ → ℕ → Parsed ℕ
+read_number t at = read_groups 5 at (drop at t)
 
 unfoldable pub read_string : List ℕ → ℕ → Parsed (List ℕ)
-read_string t at = followed (number_read t at) (λ n from. cond (leb (from + n) (length t)) (parsed (part from n t) (from + n)) malformed)
+read_string t at = followed (read_number t at) (λ n from. cond (leb (from + n) (length t)) (parsed (part from n t) (from + n)) malformed)
 
 -- the arguments of each kind
 unfoldable pub read_create : List ℕ → ℕ → Parsed Call
 read_create t at =
-    followed (read_string t at) (λ nm a. followed (number_read t a) (λ z b. parsed (creating nm z) b))
+    followed (read_string t at) (λ nm a. followed (read_number t a) (λ z b. parsed (creating nm z) b))
 
 unfoldable pub read_remove : List ℕ → ℕ → Parsed Call
 read_remove t at = followed (read_string t at) (λ nm a. parsed (removing nm) a)
 
 unfoldable pub read_read : List ℕ → ℕ → Parsed Call
 read_read t at =
-    followed (read_string t at) (λ nm a. followed (number_read t a) (λ o b. followed (number_read t b) (λ len c. parsed (reading nm o len) c)))
+    followed (read_string t at) (λ nm a. followed (read_number t a) (λ o b. followed (read_number t b) (λ len c. parsed (reading nm o len) c)))
 
 unfoldable pub read_write : List ℕ → ℕ → Parsed Call
 read_write t at =
-    followed (read_string t at) (λ nm a. followed (number_read t a) (λ o b. followed (read_string t b) (λ bs c. parsed (writing nm o bs) c)))
+    followed (read_string t at) (λ nm a. followed (read_number t a) (λ o b. followed (read_string t b) (λ bs c. parsed (writing nm o bs) c)))
 
 abbrev pub read_arguments : List ℕ → ℕ → ℕ → Parsed Call
 read_arguments t kind at =
@@ -165,18 +165,18 @@ read_arguments t kind at =
     (cond (eqb kind 5) (parsed counting at) malformed))))
 
 unfoldable pub read_call : List ℕ → ℕ → Parsed Call
-read_call t at = followed (number_read t at) (read_arguments t)
+read_call t at = followed (read_number t at) (read_arguments t)
 
 -- "Create has name and size, remove name, neither a result; read .. as result the bytes; write .. the count; free bytes its number"
 abbrev pub read_result : Call → List ℕ → ℕ → Parsed Expected
 read_result (creating nm z) t at = parsed nothing at
 read_result (removing nm) t at = parsed nothing at
 read_result (reading nm o len) t at = followed (read_string t at) (λ bs next. parsed (bytes bs) next)
-read_result (writing nm o bs) t at = followed (number_read t at) (λ n next. parsed (amount n) next)
-read_result counting t at = followed (number_read t at) (λ n next. parsed (amount n) next)
+read_result (writing nm o bs) t at = followed (read_number t at) (λ n next. parsed (amount n) next)
+read_result counting t at = followed (read_number t at) (λ n next. parsed (amount n) next)
 
 unfoldable pub read_expected : Call → List ℕ → ℕ → Parsed Expected
-read_expected c t at = followed (number_read t at) (λ n next. cond (eqb n 0) (read_result c t next) (parsed (refusal n) next))
+read_expected c t at = followed (read_number t at) (λ n next. cond (eqb n 0) (read_result c t next) (parsed (refusal n) next))
 
 unfoldable pub read_record : List ℕ → ℕ → Parsed Record
 read_record t at = followed (read_call t at) (λ c a. followed (read_expected c t a) (λ e b. parsed (record_of c e) b))
@@ -280,7 +280,7 @@ pub record TraceLaws : Type 0 where
   pub number-form : (n : ℕ) → n < 4294967296 → (bs : List ℕ) → (bs ≡ number n) ↔ NumberForm n bs
   pub number_short : (n : ℕ) → n < 4294967296 → (length (number n) ≤ 5) × (get_or (number n) 4 0 ≤ 15)
   -- of a trace of bytes a number, a string, a record is read at a position exactly if it stands there, and the next starts behind it: malformed is exactly what is none
-  pub read_number : (t : List ℕ) → Bytes t → (at n next : ℕ) → (number_read t at ≡ parsed n next) ↔ ((n < 4294967296) × StandsAt t at (number n) next)
+  pub read-number : (t : List ℕ) → Bytes t → (at n next : ℕ) → (read_number t at ≡ parsed n next) ↔ ((n < 4294967296) × StandsAt t at (number n) next)
   pub read-string : (t : List ℕ) → Bytes t → (at : ℕ) (bs : List ℕ) (next : ℕ) → (read_string t at ≡ parsed bs next) ↔ ((length bs < 4294967296) × StandsAt t at (string bs) next)
   pub read-record : (t : List ℕ) → Bytes t → (at : ℕ) (r : Record) (next : ℕ) → (read_record t at ≡ parsed r next) ↔ (Recordable r × StandsAt t at (record_bytes r) next)
   -- "Reading a trace and writing one invert each other": whole traces

@@ -1,4 +1,6 @@
 // The steps of requests on the whole image. What a step leaves is an equation with whole-block stores.
+#![tactic(auto)]
+
 pub mod format; // format.rt: blocks 0 to 2 of a fresh volume
 mod low; // low.rt: the map and the directory changed in place
 pub mod place; // place.rt: a file placed
@@ -6,7 +8,7 @@ pub mod erase; // erase.rt: a file erased
 pub mod free; // free.rt: free bytes
 
 // What create, remove, free bytes and the stores answer once the check is passed: granted with a number (0 where there is no result), or refused by its number.
-#[derive(Drop)]
+#[derive(Clone, Copy)]
 pub enum Step {
     Granted(u32),
     Refused(u32),

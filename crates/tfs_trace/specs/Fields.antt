@@ -5,7 +5,7 @@ use Rattle.std.proofs.Common.{◌∙◌, arith}
 use borrow.Author.Tests.{eq-eqb, ne_eqb, leb-true}
 use Rattle.lists.specs.Lists.{part}
 use Rattle.tfs_spec.specs.Traces as rules
-use Rattle.tfs_spec.specs.Traces.{Parsed, parsed, malformed, followed, Fitting, number_read, read_string, read_arguments, read_call, read_result, read_expected}
+use Rattle.tfs_spec.specs.Traces.{Parsed, parsed, malformed, followed, Fitting, read_number, read_string, read_arguments, read_call, read_result, read_expected}
 use Rattle.tfs_trace.specs.declared.Cursor.{Cursor}
 use Rattle.tfs_trace.specs.declared.Call.{Call}
 use Rattle.tfs_trace.specs.declared.Expected.TheVariants as expected
@@ -46,12 +46,12 @@ pub onward : (len at a b : ℕ) → (at < a) × (a ≤ len) → (a < b) × (b �
 onward len at a b h k = (omega arith, k.1)
 
 -- a string behind its length
-span-by : (t : List ℕ) (at from n : ℕ) (b : Bool) → leb (from + n) (length t) ≡ b → (at < from) × (from ≤ length t) → number_read t at ≡ parsed n from
+span-by : (t : List ℕ) (at from n : ℕ) (b : Bool) → leb (from + n) (length t) ≡ b → (at < from) × (from ≤ length t) → read_number t at ≡ parsed n from
     → (string_told t (span_if b from n) ≡ cond b (parsed (part from n t) (from + n)) malformed) × StringFits t at (span_if b from n)
 span-by t at from n true e h q = let k = leb-true (from + n) (length t) e in (refl, ((omega arith, k), k, q, refl))
 span-by t at from n false e h q = (refl, tt)
 
-pub span-told : (t : List ℕ) (at from n : ℕ) (r : StringRead) → (at < from) × (from ≤ length t) → number_read t at ≡ parsed n from → r ≡ span_read (length t) from n
+pub span-told : (t : List ℕ) (at from n : ℕ) (r : StringRead) → (at < from) × (from ≤ length t) → read_number t at ≡ parsed n from → r ≡ span_read (length t) from n
     → (string_told t r ≡ cond (leb (from + n) (length t)) (parsed (part from n t) (from + n)) malformed) × StringFits t at r
 span-told t at from n r h q e = rw e (span-by t at from n (leb (from + n) (length t)) refl h q)
 
@@ -65,7 +65,7 @@ module _ (t : List ℕ) (at : ℕ) where
   call_fits a call_read.Malformed h e k = tt
 
   -- k is the kind that was read, n the one that it is
-  pub call-is : (r : CallRead) {q : NumberRead} (k n : ℕ) (a : Cursor) → (number_told q ≡ number_read t at) × NumberFits t at q → q ≡ number.Number k a → k ≡ n → n < 128
+  pub call-is : (r : CallRead) {q : NumberRead} (k n : ℕ) (a : Cursor) → (number_told q ≡ read_number t at) × NumberFits t at q → q ≡ number.Number k a → k ≡ n → n < 128
       → (call_told t r ≡ read_arguments t n a.at) × CallFits t a.at a.at r → (call_told t r ≡ read_call t at) × CallFits t at (at + 1) r
   unfolding read_call
   call-is r k n a y g e low z = (
@@ -73,14 +73,14 @@ module _ (t : List ℕ) (at : ℕ) where
     call_fits a r (subst (NumberFits t at) g y.1) (number-one t at k a.at (omega arith) (sym y.0 ∙ ap number_told g)) z.1,
   )
 
-  pub no_kind : (k : ℕ) (a : Cursor) {q : NumberRead} → number_told q ≡ number_read t at → q ≡ number.Number k a
+  pub no_kind : (k : ℕ) (a : Cursor) {q : NumberRead} → number_told q ≡ read_number t at → q ≡ number.Number k a
       → (k ≡ 1 → ⊥) → (k ≡ 2 → ⊥) → (k ≡ 3 → ⊥) → (k ≡ 4 → ⊥) → (k ≡ 5 → ⊥) → read_call t at ≡ malformed
   unfolding read_call
   no_kind k a e g h1 h2 h3 h4 h5 = after number_told (read_arguments t) e g ∙ rw (ne_eqb k 1 h1, ne_eqb k 2 h2, ne_eqb k 3 h3, ne_eqb k 4 h4, ne_eqb k 5 h5)
 
   -- ---- an expected answer
   -- granted: the result is read behind the 0; x is the call, y its variant
-  granted : (x y : Call) (r : ExpectedRead) {q : NumberRead} (n : ℕ) (a : Cursor) → (number_told q ≡ number_read t at) × NumberFits t at q → q ≡ number.Number n a → n ≤ 0 → x ≡ y
+  granted : (x y : Call) (r : ExpectedRead) {q : NumberRead} (n : ℕ) (a : Cursor) → (number_told q ≡ read_number t at) × NumberFits t at q → q ≡ number.Number n a → n ≤ 0 → x ≡ y
       → expected_told t r ≡ read_result (call_of t y) t a.at → (Forward t at a → ExpectedFits t at y r)
       → (expected_told t r ≡ read_expected (call_of t x) t at) × ExpectedFits t at x r
   unfolding read_expected
@@ -89,7 +89,7 @@ module _ (t : List ℕ) (at : ℕ) where
     subst (λ c. ExpectedFits t at c r) (sym h) (f (subst (NumberFits t at) g e.1)),
   )
 
-  pub granted-nothing : (x y : Call) {q : NumberRead} (n : ℕ) (a : Cursor) → (number_told q ≡ number_read t at) × NumberFits t at q → q ≡ number.Number n a → n ≤ 0 → x ≡ y
+  pub granted-nothing : (x y : Call) {q : NumberRead} (n : ℕ) (a : Cursor) → (number_told q ≡ read_number t at) × NumberFits t at q → q ≡ number.Number n a → n ≤ 0 → x ≡ y
       → ((b : ℕ) → read_result (call_of t y) t b ≡ parsed rules.nothing b) → Fitting (call_of t y) rules.nothing
       → (parsed rules.nothing a.at ≡ read_expected (call_of t x) t at) × ExpectedFits t at x (expected_read.Expected expected.Nothing a)
   granted-nothing x y n a e g z h l w = granted x y (expected_read.Expected expected.Nothing a) n a e g z h (sym (l a.at)) (λ f. (f, tt, w, tt))
@@ -111,7 +111,7 @@ module _ (t : List ℕ) (at : ℕ) where
   amount-fits y a number.Malformed w k h = tt
 
   -- a result that is bytes
-  pub granted_bytes : (x y : Call) (r : ExpectedRead) {q : NumberRead} (n : ℕ) (a : Cursor) (s : StringRead) → (number_told q ≡ number_read t at) × NumberFits t at q → q ≡ number.Number n a → n ≤ 0 → x ≡ y
+  pub granted_bytes : (x y : Call) (r : ExpectedRead) {q : NumberRead} (n : ℕ) (a : Cursor) (s : StringRead) → (number_told q ≡ read_number t at) × NumberFits t at q → q ≡ number.Number n a → n ≤ 0 → x ≡ y
       → ((b : ℕ) → read_result (call_of t y) t b ≡ followed (read_string t b) (λ bs next. parsed (rules.bytes bs) next)) → ((bs : List ℕ) → Fitting (call_of t y) (rules.bytes bs))
       → (string_told t s ≡ read_string t a.at) × StringFits t a.at s → r ≡ bytes_of s
       → (expected_told t r ≡ read_expected (call_of t x) t at) × ExpectedFits t at x r
@@ -120,9 +120,9 @@ module _ (t : List ℕ) (at : ℕ) where
       (λ f. subst (ExpectedFits t at y) (sym d) (bytes_fit y a s w k.1 f))
 
   -- a result that is a number
-  pub granted-amount : (x y : Call) (r : ExpectedRead) {q : NumberRead} (n : ℕ) (a : Cursor) (m : NumberRead) → (number_told q ≡ number_read t at) × NumberFits t at q → q ≡ number.Number n a → n ≤ 0 → x ≡ y
-      → ((b : ℕ) → read_result (call_of t y) t b ≡ followed (number_read t b) (λ n next. parsed (rules.amount n) next)) → ((n : ℕ) → Fitting (call_of t y) (rules.amount n))
-      → (number_told m ≡ number_read t a.at) × NumberFits t a.at m → r ≡ amount_of m
+  pub granted-amount : (x y : Call) (r : ExpectedRead) {q : NumberRead} (n : ℕ) (a : Cursor) (m : NumberRead) → (number_told q ≡ read_number t at) × NumberFits t at q → q ≡ number.Number n a → n ≤ 0 → x ≡ y
+      → ((b : ℕ) → read_result (call_of t y) t b ≡ followed (read_number t b) (λ n next. parsed (rules.amount n) next)) → ((n : ℕ) → Fitting (call_of t y) (rules.amount n))
+      → (number_told m ≡ read_number t a.at) × NumberFits t a.at m → r ≡ amount_of m
       → (expected_told t r ≡ read_expected (call_of t x) t at) × ExpectedFits t at x r
   granted-amount x y r n a m e g z h l w k d =
       granted x y r n a e g z h (ap (expected_told t) d ∙ told-amount m ∙ ap (λ p. followed p (λ n next. parsed (rules.amount n) next)) k.0 ∙ sym (l a.at))

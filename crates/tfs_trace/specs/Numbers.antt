@@ -2,7 +2,7 @@
 use Rattle.std.specs.Prelude.{◌≡◌, refl, Bool, true, false, cond, ℕ, zero, suc, ◌+◌, ◌-◌, ◌*◌, ◌≤◌, ◌<◌, List, [], ◌∷◌, length, get_or, take, drop, ltb, eqb}
 use Rattle.std.proofs.Common.{sym, arith, sub-one, lt-ltb, le-ltb, length-drop, take_all}
 use Rattle.std.proofs.lemmas.Bool.{eqb-false}
-use Rattle.tfs_spec.specs.Traces.{Parsed, parsed, malformed, followed, join_groups, read_groups, number_read}
+use Rattle.tfs_spec.specs.Traces.{Parsed, parsed, malformed, followed, join_groups, read_groups, read_number}
 use Rattle.tfs_facts.specs.Forward.{never, same_next, same-what}
 use Rattle.tfs_trace.specs.declared.NumberRead.{NumberRead}
 use Rattle.tfs_trace.specs.declared.NumberRead.TheVariants as number
@@ -60,8 +60,8 @@ one-group (suc f) at (g ∷ l) n next h e = by (ltb g 128) (read_groups f (at + 
         above false false z e = absurd (never e)
         above false true z e = let s : high * 128 + (g - 128) ≡ n = same-what e in absurd (low-not high (g - 128) n (eqb-false high 0 z) h s)
 
-pub number-one : (t : List ℕ) (at n next : ℕ) → n < 128 → number_read t at ≡ parsed n next → next ≡ at + 1
-unfolding number_read
+pub number-one : (t : List ℕ) (at n next : ℕ) → n < 128 → read_number t at ≡ parsed n next → next ≡ at + 1
+unfolding read_number
 number-one t at n next h e = one-group 5 at (drop at t) n next h e
 
 -- behind its start, and within so many bytes

@@ -87,7 +87,7 @@ NumberFits t at number.Malformed = Unit {0}
 
 -- the length of a span stands at a position, and its bytes behind that
 abbrev pub LengthAt : List ℕ → ℕ → Span → Type 0
-LengthAt t at s = rules.number_read t at ≡ rules.parsed s.len s.at
+LengthAt t at s = rules.read_number t at ≡ rules.parsed s.len s.at
 
 abbrev pub EndsAt : Span → ℕ → Type 0
 EndsAt s end = s.at + s.len ≡ end

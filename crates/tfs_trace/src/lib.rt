@@ -1,26 +1,28 @@
 // Reads the records of a trace of TFS requests. Names and bytes that are read stay parts of the lent trace.
+#![tactic(auto)]
+
 mod number; // number.rt: a number in groups of seven bits
 mod read; // read.rt: the fields of a record
 
 ghost use Rattle.std.specs.Prelude.{◌≡◌};
-ghost use Rattle.tfs_spec.specs.Traces.{number_read, read_string, read_record};
+ghost use Rattle.tfs_spec.specs.Traces.{read_number, read_string, read_record};
 ghost use Rattle.tfs_trace.specs.Told.{number_told, NumberFits, string_told, StringFits, record_told, RecordFits};
 
 // A position in a trace.
-#[derive(Drop)]
+#[derive(Clone, Copy)]
 pub struct Cursor {
     pub at: usize,
 }
 
 // Bytes of a trace: so many from a position on.
-#[derive(Drop)]
+#[derive(Clone, Copy)]
 pub struct Span {
     pub at: usize,
     pub len: usize,
 }
 
 // What a record asks.
-#[derive(Drop)]
+#[derive(Clone, Copy)]
 pub enum Call {
     // name and size
     Create(Span, u32),
@@ -34,7 +36,7 @@ pub enum Call {
 }
 
 // What answer a record expects.
-#[derive(Drop)]
+#[derive(Clone, Copy)]
 pub enum Expected {
     // granted: with no result; with the bytes read; with a count or free bytes
     Nothing,
@@ -44,38 +46,38 @@ pub enum Expected {
     Refusal(u32),
 }
 
-#[derive(Drop)]
+#[derive(Clone, Copy)]
 pub struct Record {
     pub call: Call,
     pub expected: Expected,
 }
 
 // What reading gives: what stands at the cursor, with the cursor behind it.
-#[derive(Drop)]
+#[derive(Clone, Copy)]
 pub enum NumberRead {
     Number(u32, Cursor),
     Malformed,
 }
 
-#[derive(Drop)]
+#[derive(Clone, Copy)]
 pub enum StringRead {
     String(Span, Cursor),
     Malformed,
 }
 
-#[derive(Drop)]
+#[derive(Clone, Copy)]
 pub enum CallRead {
     Call(Call, Cursor),
     Malformed,
 }
 
-#[derive(Drop)]
+#[derive(Clone, Copy)]
 pub enum ExpectedRead {
     Expected(Expected, Cursor),
     Malformed,
 }
 
-#[derive(Drop)]
+#[derive(Clone, Copy)]
 pub enum RecordRead {
     Record(Record, Cursor),
     Malformed,
@@ -84,7 +86,7 @@ pub enum RecordRead {
 impl Cursor {
     // The number at the cursor.
     pub fn number(self, trace: &[u8]) -> NumberRead
-        ensures { (number_told result ≡ number_read trace.now self.at) × NumberFits trace.now self.at result }
+        ensures { (number_told result ≡ read_number trace.now self.at) × NumberFits trace.now self.at result }
     {
         let at = self.at;
         number::number_at(trace, at)

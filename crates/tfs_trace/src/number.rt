@@ -1,13 +1,13 @@
 // A number in groups of seven bits, low group first.
 ghost use Rattle.std.specs.Prelude.{◌≡◌, ◌+◌, ◌<◌, length};
-ghost use Rattle.tfs_spec.specs.Traces.{read_groups, number_read, join_groups};
+ghost use Rattle.tfs_spec.specs.Traces.{read_groups, read_number, join_groups};
 ghost use Rattle.tfs_trace.specs.Told.{number_told, NumberFits};
 
 use crate::{Cursor, NumberRead};
 
 // The number at a position. Most take one byte, which is looked at here.
 pub fn number_at(trace: &[u8], at: usize) -> NumberRead
-    ensures { (number_told result ≡ number_read trace.now at) × NumberFits trace.now at result }
+    ensures { (number_told result ≡ read_number trace.now at) × NumberFits trace.now at result }
 {
     if trace.len() <= at {
         return NumberRead::Malformed;

@@ -109,7 +109,7 @@ module _ (t : List ℕ) (next : ℕ) where
   -- where name and bytes stand; `middle` is the end of the call
   module _ (at : ℕ) where
     abbrev Named : TfsRecord → Type 0
-    Named r = T (has_name r.entry.kind) → rules.number_read t (at + 1) ≡ rules.parsed r.name_length r.name_at
+    Named r = T (has_name r.entry.kind) → rules.read_number t (at + 1) ≡ rules.parsed r.name_length r.name_at
 
     named_by : (middle : ℕ) (x : Call) (g : Given) → CallLies t (at + 1) x middle → Named (asked x g next)
     named_by m (call.Create nm z) g l h = l

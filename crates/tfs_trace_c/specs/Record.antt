@@ -122,7 +122,7 @@ pub record Shaped (t : List ℕ) (r : TfsRecord) : Type 0 where
 -- of the record at a position of the trace t: its name and its bytes are where they stand
 pub record Placed (t : List ℕ) (at : ℕ) (r : TfsRecord) : Type 0 where
   -- the name behind its length, which is behind the kind
-  pub named : T (has_name r.entry.kind) → rules.number_read t (at + 1) ≡ rules.parsed r.name_length r.name_at
+  pub named : T (has_name r.entry.kind) → rules.read_number t (at + 1) ≡ rules.parsed r.name_length r.name_at
   -- what a write writes is the last of its arguments, what a read gave the last of the record
   pub written : r.entry.kind ≡ 4 → (c : rules.Call) × (rules.read_call t at ≡ rules.parsed c (r.bytes_at + r.bytes_length))
   pub given : r.entry.kind ≡ 3 → r.entry.refusal ≡ 0 → r.bytes_at + r.bytes_length ≡ r.next

@@ -1,4 +1,6 @@
 // Traces of TFS requests for C: records read and written, and replay. The header is tfs_trace.h; a slice passes as a pointer and then a length.
+#![tactic(auto)]
+
 ghost use Rattle.std.specs.Prelude.{◌≡◌};
 ghost use Rattle.tfs_spec.specs.Replays.{replay};
 ghost use Rattle.tfs_spec.specs.Traces.{read_record};
@@ -12,7 +14,7 @@ use tfs_trace_write::{Draft, Written, write_record};
 
 // The numbers of a record; those that its kind does not have are 0.
 #[repr(C)]
-#[derive(Drop)]
+#[derive(Clone, Copy)]
 pub struct TfsEntry {
     pub kind: u64,
     pub size: u64,
@@ -24,7 +26,7 @@ pub struct TfsEntry {
 
 // A record of a trace; name and bytes as position and length in it.
 #[repr(C)]
-#[derive(Drop)]
+#[derive(Clone, Copy)]
 pub struct TfsRecord {
     pub entry: TfsEntry,
     pub name_at: u64,
@@ -36,7 +38,7 @@ pub struct TfsRecord {
 
 // What writing answers: 0 and the length, or the refusal.
 #[repr(C)]
-#[derive(Drop)]
+#[derive(Clone, Copy)]
 pub struct TfsWritten {
     pub refusal: u64,
     pub length: u64,
@@ -44,7 +46,7 @@ pub struct TfsWritten {
 
 // What replay answers: the outcome and a number of records, or the check's refusal and its place.
 #[repr(C)]
-#[derive(Drop)]
+#[derive(Clone, Copy)]
 pub struct TfsReplayed {
     pub outcome: u64,
     pub number: u64,
@@ -55,7 +57,7 @@ pub struct TfsReplayed {
 // ---- reading
 
 // The answer that a record expects: the refusal, 0 for granted, and the result.
-#[derive(Drop)]
+#[derive(Clone, Copy)]
 struct Given {
     refusal: u64,
     value: u64,

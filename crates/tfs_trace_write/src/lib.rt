@@ -1,4 +1,6 @@
 // Writes a record of a trace into a lent buffer.
+#![tactic(auto)]
+
 ghost use Rattle.std.specs.Prelude.{◌≡◌, true, cond, ◌+◌, ◌%◌, ◌≤◌, ◌<◌, length, leb};
 ghost use Rattle.tfs_spec.specs.Traces.{groups, number, string, write_record};
 ghost use Rattle.tfs_trace_write.specs.Drafts.{draft_told, written_told};
@@ -11,7 +13,7 @@ use spans::copy::copy;
 const LIMIT: u64 = 4294967296;
 
 // The kind of a record to be written, with the numbers of its request. A name and bytes go beside it.
-#[derive(Drop)]
+#[derive(Clone, Copy)]
 pub enum Draft {
     // size
     Create(u64),
@@ -24,14 +26,14 @@ pub enum Draft {
 }
 
 // What writing answers: granted with the length of the record, or refused by its number.
-#[derive(Drop)]
+#[derive(Clone, Copy)]
 pub enum Written {
     Granted(usize),
     Refused(u32),
 }
 
 // A part of a record: nothing, a number, or the name or the bytes with their length before them.
-#[derive(Drop)]
+#[derive(Clone, Copy)]
 enum Field {
     Nothing,
     Number(u64),
@@ -40,7 +42,7 @@ enum Field {
 }
 
 // A half of a record, what was asked or what was answered: the kind or the refusal, then up to three fields.
-#[derive(Drop)]
+#[derive(Clone, Copy)]
 struct Half {
     head: u64,
     first: Field,

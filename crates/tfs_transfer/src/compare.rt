@@ -13,7 +13,7 @@ use tfs_layout::block_of;
 use tfs_runs::same::same_runs;
 
 // The read gives these bytes, gives others, or is refused by a number.
-#[derive(Drop)]
+#[derive(Clone, Copy)]
 pub enum Compared {
     Same,
     Differs,

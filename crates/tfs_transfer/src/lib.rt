@@ -1,4 +1,6 @@
 // Read and write on a consistent volume: bytes between a buffer and the file of a name.
+#![tactic(auto)]
+
 pub mod compare; // compare.rt: what a read would give, compared with given bytes
 
 ghost use Rattle.std.specs.Prelude.{◌≡◌, ◌-◌, ◌≤◌, min};
@@ -18,14 +20,14 @@ use tfs_runs::read::read_runs;
 use tfs_runs::write::write_runs;
 
 // What read and write answer once the check is passed: how many bytes are moved and how many blocks they lie in, or the refusal's number.
-#[derive(Drop)]
+#[derive(Clone, Copy)]
 pub enum Moved {
     Granted { count: u32, blocks: u32 },
     Refused(u32),
 }
 
 // How far a transfer reaches: how many bytes it moves and which block is the file's inode, or the refusal's number.
-#[derive(Drop)]
+#[derive(Clone, Copy)]
 pub enum Reach {
     Bytes(usize, usize),
     Refused(u32),

@@ -1,4 +1,6 @@
 // The pump's timing file: the values that the memory was trained to, with the board and the memory maker that they were trained on. It sees the volume by the requests of TFS only, and every request runs the check first.
+#![tactic(auto)]
+
 mod blocks; // blocks.rt: a store that creates the file, as stores of whole blocks
 mod bytes; // bytes.rt: the file's bytes made and read
 mod look; // look.rt: what stands under the file's name
@@ -23,7 +25,7 @@ pub const VALUES: usize = 28;
 pub const SIZE: usize = 64;
 
 // What boot answers, and the values: zeros where it is refused. (An enum holds no array.)
-#[derive(Drop)]
+#[derive(Clone, Copy)]
 pub struct Booted {
     pub answer: Done,
     pub values: [u16; VALUES],

@@ -12,7 +12,7 @@ use tfs::{CheckAnswer, Done, Fault, TransferAnswer};
 pub const MORE: usize = 65;
 
 // Where a store goes: into the file that stands, or into one to be created.
-#[derive(Drop)]
+#[derive(Clone, Copy)]
 pub enum Room {
     Stands,
     Absent,
@@ -26,7 +26,8 @@ pub fn look(image: &[u8], buf: &mut [u8; MORE]) -> Done
 {
     match tfs::read(image, b"TIMING", 0, buf) {
         TransferAnswer::Granted(moved) => {
-            if moved.count as usize == SIZE {
+            let whole = moved.count as usize == SIZE;
+            if whole {
                 return Done::Granted;
             }
             Done::Refused(35)
@@ -57,7 +58,8 @@ pub fn room_for(image: &[u8], board: u32) -> Room
     match look(image, &mut buf) {
         Done::Granted => Room::Stands,
         Done::Refused(n) => {
-            if n == 13 {
+            let absent = n == 13;
+            if absent {
                 return Room::Absent;
             }
             Room::Refused(n)

@@ -6,16 +6,16 @@ use Rattle.timing_c.specs.declared.TimingResult.{TimingResult}
 use Rattle.timing_c.specs.declared.TimingBooted.{TimingBooted}
 
 -- the refusal's number, 0 for granted; its place; the number of a block
-abbrev pub result : ℕ → ℕ → ℕ → TimingResult
-result num p x = record { refusal = num; place = p; value = x }
+abbrev pub of_numbers : ℕ → ℕ → ℕ → TimingResult
+of_numbers num p x = record { refusal = num; place = p; value = x }
 
 unfoldable pub result_of : Answer → TimingResult
-result_of done = result 0 0 0
-result_of (value x) = result 0 0 x
-result_of (transferred c m) = result 0 0 0
-result_of unused = result 0 0 0
-result_of (file nm i z) = result 0 0 0
-result_of (refused num p) = result num p 0
+result_of done = of_numbers 0 0 0
+result_of (value x) = of_numbers 0 0 x
+result_of (transferred c m) = of_numbers 0 0 0
+result_of unused = of_numbers 0 0 0
+result_of (file nm i z) = of_numbers 0 0 0
+result_of (refused num p) = of_numbers num p 0
 
 -- the same of a boot, and the values
 abbrev pub booted_of : rules.Booted → TimingBooted

@@ -1,16 +1,18 @@
 // The requests on the pump's timing file for C. The header is timing.h; a slice passes as a pointer and then a length, 28 values as a pointer.
+#![tactic(auto)]
+
 ghost use Rattle.std.specs.Prelude.{◌≡◌};
 ghost use Rattle.tfs.specs.Told.{fault_answer, answer_told, done_told};
 ghost use Rattle.timing.specs.Told.{timing, booted_told};
 ghost use Rattle.timing_spec.specs.Timing as rules;
-ghost use Rattle.timing_c.specs.Result.{result, result_of, booted_of};
+ghost use Rattle.timing_c.specs.Result.{of_numbers, result_of, booted_of};
 
 use tfs::{Answer, Done, Fault};
 use timing::{Booted, VALUES};
 
 // The refusal's number, 0 for granted; its place; the number of a block.
 #[repr(C)]
-#[derive(Drop)]
+#[derive(Clone, Copy)]
 pub struct TimingResult {
     pub refusal: u32,
     pub place: u32,
@@ -19,7 +21,7 @@ pub struct TimingResult {
 
 // What a boot gives: the refusal and its place; the values, zeros where it is refused.
 #[repr(C)]
-#[derive(Drop)]
+#[derive(Clone, Copy)]
 pub struct TimingBooted {
     pub refusal: u32,
     pub place: u32,
@@ -27,7 +29,7 @@ pub struct TimingBooted {
 }
 
 fn granted(value: u32) -> TimingResult
-    ensures* { λ r. ⌜ r ≡ result 0 0 value ⌝ }
+    ensures { result ≡ of_numbers 0 0 value }
 {
     TimingResult {
         refusal: 0,
@@ -37,7 +39,7 @@ fn granted(value: u32) -> TimingResult
 }
 
 fn refused(number: u32, place: u32) -> TimingResult
-    ensures* { λ r. ⌜ r ≡ result number place 0 ⌝ }
+    ensures { result ≡ of_numbers number place 0 }
 {
     TimingResult {
         refusal: number,
@@ -47,7 +49,7 @@ fn refused(number: u32, place: u32) -> TimingResult
 }
 
 fn of_fault(f: Fault) -> TimingResult
-    ensures* { λ r. ⌜ r ≡ result_of (fault_answer f) ⌝ }
+    ensures { result ≡ result_of (fault_answer f) }
 {
     match f {
         Fault::Header(n) => refused(n, 0),
@@ -57,7 +59,7 @@ fn of_fault(f: Fault) -> TimingResult
 }
 
 fn of_done(d: Done) -> TimingResult
-    ensures* { λ r. ⌜ r ≡ result_of (done_told d) ⌝ }
+    ensures { result ≡ result_of (done_told d) }
 {
     match d {
         Done::Granted => granted(0),
@@ -67,7 +69,7 @@ fn of_done(d: Done) -> TimingResult
 }
 
 fn of_answer(a: Answer) -> TimingResult
-    ensures* { λ r. ⌜ r ≡ result_of (answer_told a) ⌝ }
+    ensures { result ≡ result_of (answer_told a) }
 {
     match a {
         Answer::Granted(x) => granted(x),
@@ -77,7 +79,7 @@ fn of_answer(a: Answer) -> TimingResult
 }
 
 fn of_boot(b: Booted) -> TimingBooted
-    ensures* { λ r. ⌜ r ≡ booted_of (booted_told b) ⌝ }
+    ensures { result ≡ booted_of (booted_told b) }
 {
     let answer = b.answer;
     let values = b.values;
@@ -97,7 +99,7 @@ pub extern "C" fn timing_store(
     maker: u32,
     values: &[u16; VALUES],
 ) -> TimingResult
-    ensures* { λ r. ⌜ (r ≡ result_of (rules.store 512 image.old (timing board maker values.now)).answer) × (image.new ≡ (rules.store 512 image.old (timing board maker values.now)).image) ⌝ }
+    ensures { (result ≡ result_of (rules.store 512 image.old (timing board maker values.now)).answer) × (image.new ≡ (rules.store 512 image.old (timing board maker values.now)).image) }
 {
     of_done(timing::store(image, board, maker, values))
 }
@@ -105,7 +107,7 @@ pub extern "C" fn timing_store(
 // Notes that the lid was opened.
 #[unsafe(no_mangle)]
 pub extern "C" fn timing_open_lid(image: &mut [u8]) -> TimingResult
-    ensures* { λ r. ⌜ (r ≡ result_of (rules.open_lid 512 image.old).answer) × (image.new ≡ (rules.open_lid 512 image.old).image) ⌝ }
+    ensures { (result ≡ result_of (rules.open_lid 512 image.old).answer) × (image.new ≡ (rules.open_lid 512 image.old).image) }
 {
     of_done(timing::open_lid(image))
 }
@@ -113,7 +115,7 @@ pub extern "C" fn timing_open_lid(image: &mut [u8]) -> TimingResult
 // The values for this board and this maker.
 #[unsafe(no_mangle)]
 pub extern "C" fn timing_boot(image: &[u8], board: u32, maker: u32) -> TimingBooted
-    ensures* { λ r. ⌜ r ≡ booted_of (rules.boot 512 image.now board maker) ⌝ }
+    ensures { result ≡ booted_of (rules.boot 512 image.now board maker) }
 {
     of_boot(timing::boot(image, board, maker))
 }
@@ -128,7 +130,7 @@ pub extern "C" fn timing_store_block(
     k: usize,
     buf: &mut [u8],
 ) -> TimingResult
-    ensures* { λ r. ⌜ (r ≡ result_of (rules.store_block 512 image.now (timing board maker values.now) k buf.old).answer) × (buf.new ≡ (rules.store_block 512 image.now (timing board maker values.now) k buf.old).buffer) ⌝ }
+    ensures { (result ≡ result_of (rules.store_block 512 image.now (timing board maker values.now) k buf.old).answer) × (buf.new ≡ (rules.store_block 512 image.now (timing board maker values.now) k buf.old).buffer) }
 {
     of_answer(timing::store_block(image, board, maker, values, k, buf))
 }
@@ -136,7 +138,7 @@ pub extern "C" fn timing_store_block(
 // The k-th store of an opening.
 #[unsafe(no_mangle)]
 pub extern "C" fn timing_open_lid_block(image: &[u8], k: usize, buf: &mut [u8]) -> TimingResult
-    ensures* { λ r. ⌜ (r ≡ result_of (rules.open_lid_block 512 image.now k buf.old).answer) × (buf.new ≡ (rules.open_lid_block 512 image.now k buf.old).buffer) ⌝ }
+    ensures { (result ≡ result_of (rules.open_lid_block 512 image.now k buf.old).answer) × (buf.new ≡ (rules.open_lid_block 512 image.now k buf.old).buffer) }
 {
     of_answer(timing::open_lid_block(image, k, buf))
 }

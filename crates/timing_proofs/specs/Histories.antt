@@ -24,7 +24,7 @@ use Rattle.timing_proofs.specs.Rules.{by_number, other-board, other-maker, both}
 use Rattle.timing_proofs.specs.Changes.{made-consistent}
 use Rattle.timing_proofs.specs.Unset.{unset-zeros, unset-if, unset-boots, unset-after-opening}
 use Rattle.timing_proofs.specs.Power.{store-comes, open-comes, open-unset, by_side, refused-cut, lid-refused}
-use Rattle.timing_proofs.specs.Effects.{store_keeps, store-consistent, board-set, stored, open-keeps, open-consistent, opened}
+use Rattle.timing_proofs.specs.Effects.{store_keeps, store-consistent, board-set, stored, open-keeps, open-consistent}
 
 neither : {a b c d : ℕ} → (a ≢ b) ⊎ (c ≢ d) → a ≡ b → c ≡ d → ⊥
 neither (inl f) e g = f e

@@ -1,1 +1,2 @@
 // Proofs of the statements of timing_spec: see specs/. No code.
+#![tactic(auto)]

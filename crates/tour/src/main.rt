@@ -1,135 +1,147 @@
 // Shows the main job: a volume is formatted, a file created, written and read back; then one byte of the map is damaged,
 // and the volume is refused with the fault and its place.
-use libc::STDOUT_FILENO;
+#![tactic(auto)]
+
+use std::io;
 use tfs::{Answer, CheckAnswer, Done, Fault, TransferAnswer};
 
-fn text(words: &[u8]) {
-    io::write_all(STDOUT_FILENO, words);
+fn text(rt: &impl Print, words: &[u8]) -> io::Result<()> {
+    rt.write_all(words)
 }
 
-fn number(n: u32) {
-    io::print_decimal(STDOUT_FILENO, n as u64);
+fn number(rt: &impl Print, n: u32) -> io::Result<()> {
+    print!(rt; "{n}")
 }
 
-fn fault(f: Fault) {
+fn fault(rt: &impl Print, f: Fault) -> io::Result<()> {
     match f {
         Fault::Header(num) => {
-            text(b"refused ");
-            number(num);
+            text(rt, b"refused ")?;
+            number(rt, num)
         }
         Fault::Slot(num, slot) => {
-            text(b"refused ");
-            number(num);
-            text(b", slot ");
-            number(slot);
+            text(rt, b"refused ")?;
+            number(rt, num)?;
+            text(rt, b", slot ")?;
+            number(rt, slot)
         }
         Fault::Block(num, block) => {
-            text(b"refused ");
-            number(num);
-            text(b", block ");
-            number(block);
+            text(rt, b"refused ")?;
+            number(rt, num)?;
+            text(rt, b", block ")?;
+            number(rt, block)
         }
     }
 }
 
-fn done(what: &[u8], d: Done) {
-    text(what);
+fn done(rt: &impl Print, what: &[u8], d: Done) -> io::Result<()> {
+    text(rt, what)?;
     match d {
-        Done::Granted => text(b"granted"),
+        Done::Granted => text(rt, b"granted")?,
         Done::Refused(num) => {
-            text(b"refused ");
-            number(num);
+            text(rt, b"refused ")?;
+            number(rt, num)?;
         }
-        Done::Inconsistent(f) => fault(f),
+        Done::Inconsistent(f) => fault(rt, f)?,
     }
-    text(b"\n");
+    text(rt, b"\n")
 }
 
-fn answer(what: &[u8], a: Answer) {
-    text(what);
+fn answer(rt: &impl Print, what: &[u8], a: Answer) -> io::Result<()> {
+    text(rt, what)?;
     match a {
-        Answer::Granted(n) => number(n),
+        Answer::Granted(n) => number(rt, n)?,
         Answer::Refused(num) => {
-            text(b"refused ");
-            number(num);
+            text(rt, b"refused ")?;
+            number(rt, num)?;
         }
-        Answer::Inconsistent(f) => fault(f),
+        Answer::Inconsistent(f) => fault(rt, f)?,
     }
-    text(b"\n");
+    text(rt, b"\n")
 }
 
 // The count of bytes, and the blocks that they lie in.
-fn transfer(what: &[u8], t: TransferAnswer) {
-    text(what);
+fn transfer(rt: &impl Print, what: &[u8], t: TransferAnswer) -> io::Result<()> {
+    text(rt, what)?;
     match t {
         TransferAnswer::Granted(moved) => {
-            number(moved.count);
-            text(b" bytes, content blocks: ");
-            number(moved.blocks);
+            number(rt, moved.count)?;
+            text(rt, b" bytes, content blocks: ")?;
+            number(rt, moved.blocks)?;
         }
         TransferAnswer::Refused(num) => {
-            text(b"refused ");
-            number(num);
+            text(rt, b"refused ")?;
+            number(rt, num)?;
         }
-        TransferAnswer::Inconsistent(f) => fault(f),
+        TransferAnswer::Inconsistent(f) => fault(rt, f)?,
     }
-    text(b"\n");
+    text(rt, b"\n")
 }
 
-fn checked(c: CheckAnswer) {
-    text(b"check: ");
+fn checked(rt: &impl Print, c: CheckAnswer) -> io::Result<()> {
+    text(rt, b"check: ")?;
     match c {
-        CheckAnswer::Consistent => text(b"consistent"),
-        CheckAnswer::Refused(f) => fault(f),
+        CheckAnswer::Consistent => text(rt, b"consistent")?,
+        CheckAnswer::Refused(f) => fault(rt, f)?,
     }
-    text(b"\n");
+    text(rt, b"\n")
 }
 
 // Writes into the file and reads it back.
-fn use_file(image: &mut [u8; 65536]) {
+fn use_file(rt: &impl Print, image: &mut [u8; 65536]) -> io::Result<()> {
     transfer(
+        rt,
         b"write 5 bytes at 510: ",
         tfs::write(image, b"TIMING", 510, b"hello"),
-    );
+    )?;
     let mut back = [0u8; 5];
     transfer(
+        rt,
         b"read 5 bytes at 510: ",
         tfs::read(image, b"TIMING", 510, &mut back),
-    );
-    text(b"read back: ");
-    text(&back);
-    text(b"\n");
+    )?;
+    text(rt, b"read back: ")?;
+    text(rt, &back)?;
+    text(rt, b"\n")?;
     transfer(
+        rt,
         b"write at the end: ",
         tfs::write(image, b"TIMING", 1000, b"hello"),
-    );
+    )?;
     transfer(
+        rt,
         b"write past the end: ",
         tfs::write(image, b"TIMING", 1001, b"hello"),
-    );
+    )?;
     transfer(
+        rt,
         b"write to a name that does not stand: ",
         tfs::write(image, b"TIMER", 1001, b"hello"),
-    );
-    answer(b"free bytes: ", tfs::free_bytes(image));
-    checked(tfs::check(image));
+    )?;
+    answer(rt, b"free bytes: ", tfs::free_bytes(image))?;
+    checked(rt, tfs::check(image))
 }
 
-fn damage(image: &mut [u8; 65536]) {
-    text(b"one byte of the map is damaged\n");
+fn damage(rt: &impl Print, image: &mut [u8; 65536]) -> io::Result<()> {
+    text(rt, b"one byte of the map is damaged\n")?;
     image[515] = 7;
-    checked(tfs::check(image));
+    checked(rt, tfs::check(image))?;
     let mut back = [0u8; 5];
-    transfer(b"read TIMING: ", tfs::read(image, b"TIMING", 10, &mut back));
+    transfer(
+        rt,
+        b"read TIMING: ",
+        tfs::read(image, b"TIMING", 10, &mut back),
+    )
 }
 
-fn main() {
-    let mut image = io::large_buffer();
-    done(b"format PUMP: ", tfs::format(&mut image, b"PUMP"));
+fn main(rt: HostRuntime) -> io::Result<()> {
+    let mut image = [0u8; 65536];
+    done(&rt, b"format PUMP: ", tfs::format(&mut image, b"PUMP"))?;
     answer(
+        &rt,
         b"create TIMING, 1000 bytes: inode number ",
         tfs::create(&mut image, b"TIMING", 1000),
-    );
-    use_file(&mut image);
-    damage(&mut image);
+    )?;
+    use_file(&rt, &mut image)?;
+    damage(&rt, &mut image)
 }

@@ -1,0 +1,14 @@
+use mathlib.Core.Path.{◌∙◌}
+use native.Mathlib.Omega.{arith}
+use Rattle.replay_line.specs.Line.{line-three, rest-on}
+use Rattle.replay_line.proofs.line_of_three.Goals as goal
+
+pub returns : goal.returns
+returns c = (
+  line-three c.put_number-at.new.out c.put_number-last.new.out c.put_number.new.out c.args.a c.args.b c.args.c c.put_number-at.result c.put_number-last.result c.put_number.result
+      c.put_number-at.ensures.0 c.put_number-last.ensures.0 c.put_number.ensures.0,
+  omega arith,
+  c.put_number.ensures.3
+      ∙ rest-on c.put_number-last.result c.put_number.result c.put_number-last.new.out c.args.out.now c.put_number.ensures.2
+      (c.put_number-last.ensures.3 ∙ rest-on c.put_number-at.result c.put_number-last.result c.put_number-at.new.out c.args.out.now c.put_number-last.ensures.2 c.put_number-at.ensures.3),
+)
