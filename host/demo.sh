@@ -4,7 +4,7 @@
 set -euo pipefail
 cd "$(dirname "$0")/.."
 
-takes="about 6 minutes"
+takes="about 15 minutes"
 libraries="tfs_c tfs_trace_c timing_c romfs_c"
 steps=6
 step=0
@@ -63,9 +63,9 @@ examples() {
     example example && example timing
 }
 
-echo "This takes $takes on a fresh machine, where the proofs are checked first, and seconds where all is built."
+echo "This takes $takes on a fresh machine, where the proofs are checked first, and about a minute where all is built."
 for library in $libraries; do
-    step "the proved library $library" rt staticlib "$library"
+    step "the proved library $library" host/build.sh "$library"
 done
 step "the host programs" host_programs
 step "the C examples" examples

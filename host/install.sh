@@ -36,7 +36,7 @@ need() {
     fi
 }
 for name in $libraries; do
-    need "target/staticlib/lib$name.a" "rt staticlib $name"
+    need "target/staticlib/lib$name.a" "host/build.sh $name"
 done
 need "$tool" "cd host && cargo build --release --offline -p tfs"
 [ $missing = 0 ] || exit 1

@@ -42,7 +42,7 @@ stack() {
 # The proved program over pairs of files.
 program() {
     if [ ! -x ../target/bin/replay ]; then
-        echo "target/bin/replay is missing; it is made by: rt check replay"
+        echo "target/bin/replay is missing; it is made by: host/build.sh replay"
         return 1
     fi
     cargo test --offline -p program
@@ -50,7 +50,7 @@ program() {
 
 for name in tfs_c tfs_trace_c timing_c romfs_c; do
     if [ ! -f "$libraries/lib$name.a" ]; then
-        echo "host tests: target/staticlib/lib$name.a is missing; it is made by: rt staticlib $name"
+        echo "host tests: target/staticlib/lib$name.a is missing; it is made by: host/build.sh $name"
         failed=1
     fi
 done

@@ -5,13 +5,14 @@
  * The archives are for x86-64 with 64-bit pointers, little-endian ELF objects,
  * to be called by the System V ABI: its registers, its stack aligned to 16
  * bytes, structs over 16 bytes returned through memory. They use general and
- * SSE (xmm) registers, and no x87, MMX or AVX ones; they touch no byte below
- * the stack pointer (no red zone), and have no stack protector and no
- * thread-local data. They are position-independent: all relocations are
- * relative to where they stand, so that the archives go into a program at a
- * fixed address, a PIE or a shared library. They have no writable data. What
- * each needs of the program that links it, memset, memcpy or memmove, its header
- * says; no archive needs another one.
+ * SSE (xmm) registers, and no x87, MMX or AVX ones, and no instruction beyond
+ * SSE2 (no SSE3, SSSE3, SSE4 or popcnt): every x86-64 processor has them all.
+ * They touch no byte below the stack pointer (no red zone), and have no stack
+ * protector and no thread-local data. They are position-independent: all
+ * relocations are relative to where they stand, so that the archives go into a
+ * program at a fixed address, a PIE or a shared library. They have no writable
+ * data. What each needs of the program that links it, memset, memcpy or memmove,
+ * its header says; no archive needs another one.
  *
  * The headers are C from C99 on, or C89 with gcc or clang, and C++ from C++98
  * on.

@@ -23,8 +23,8 @@
  * every value of every number and every content of the image and the buffer. A
  * refused request changes no byte of the image or of the buffer. No allocation,
  * no global state, no recursion, under 4 KiB of stack as measured. The library
- * is libtiming_c.a; it needs memcpy, memmove and memset. tfs_common.h says for
- * what machine and ABI it is.
+ * is libtiming_c.a; it needs memset. tfs_common.h says for what machine and ABI
+ * it is.
  *
  * What a granted request costs, in checks of the volume (tfs.h), beside which its
  * own work is small: a boot one; an opening, and each block fetched of a series,

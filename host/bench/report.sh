@@ -84,9 +84,9 @@ fi
 cat <<TEXT
 # Benchmarks
 
-Printed by \`host/bench/report.sh\`, which needs the static libraries (\`rt staticlib\` of \`tfs_c\`, \`tfs_trace_c\`, \`timing_c\` and
-\`romfs_c\`). Nothing in the tests depends on a time. All is measured in $((2 * runs)) runs: $runs on an idle machine, and $runs on a loaded
-one, with an endless \`cksum </dev/zero\` for each of its $cores cores beside the run.
+Printed by \`host/bench/report.sh\`, which needs the static libraries (\`host/build.sh\` makes them). Nothing in the tests
+depends on a time. All is measured in $((2 * runs)) runs: $runs on an idle machine, and $runs on a loaded one, with an endless
+\`cksum </dev/zero\` for each of its $cores cores beside the run.
 
 ## Claims
 

@@ -1,4 +1,4 @@
-//! Links the static libraries that `rt staticlib` writes of `timing_c`, `tfs_trace_c`, `tfs_c` and
+//! Links the static libraries that `host/build.sh` makes of `timing_c`, `tfs_trace_c`, `tfs_c` and
 //! `romfs_c`, and says which of them are still to be made.
 use std::path::Path;
 
@@ -11,7 +11,7 @@ fn main() {
         if folder.join(&file).is_file() {
             println!("cargo::rustc-link-lib=static={name}");
         } else {
-            let make = format!("make it with: rt staticlib {name}");
+            let make = format!("make it with: host/build.sh {name}");
             println!("cargo::error=target/staticlib/{file} is missing; {make}");
         }
     }

@@ -22,7 +22,7 @@ pub const TROUBLE: &str = "4\n";
 /// Where the program is.
 pub fn path() -> PathBuf {
     let path = Path::new(env!("CARGO_MANIFEST_DIR")).join("../../target/bin/replay");
-    let made = "target/bin/replay is missing; it is made by: rt check replay";
+    let made = "target/bin/replay is missing; it is made by: host/build.sh replay";
     assert!(path.is_file(), "{made}");
     path
 }

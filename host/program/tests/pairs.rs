@@ -208,21 +208,54 @@ fn files_that_may_not_be_read() {
 }
 
 #[test]
-fn names_of_any_bytes() {
+fn names_of_any_text() {
     let folder = Folder::new("names");
     let image = largest(&mut Random::new(9));
-    let odd = OsString::from_vec(b"\xFF\n '\"$*\\".to_vec());
-    let long = OsString::from("n".repeat(255));
-    let names: [&OsStr; 5] = [&odd, &long, "-".as_ref(), "--help".as_ref(), " ".as_ref()];
+    let long = "n".repeat(255);
+    let names = ["\u{FF}\n '\"$*\\", &long, "-", "--help", " "];
     for name in names {
         folder.write(name, &image);
         folder.write("trace", b"\x05\x07");
-        assert_eq!(folder.run(&[name, "trace".as_ref()]), "2 1\n", "{name:?}");
+        assert_eq!(folder.run(&[name, "trace"]), "2 1\n", "{name:?}");
         folder.write("image", &image);
         folder.write(name, b"\x02\0\x08");
-        assert_eq!(folder.run(&["image".as_ref(), name]), "0 1\n", "{name:?}");
+        assert_eq!(folder.run(&["image", name]), "0 1\n", "{name:?}");
     }
     assert_eq!(folder.run(&["image", "image"]), "1 1\n");
     let (image, trace) = (folder.path("image"), folder.path("trace"));
     assert_eq!(folder.run(&[&image, &trace]), "2 1\n");
+}
+
+/// The standard library that the program opens files by takes UTF-8 alone.
+#[test]
+fn names_that_are_not_utf_8() {
+    let folder = Folder::new("bytes");
+    let image = largest(&mut Random::new(10));
+    let trace = b"\x02\0\x08";
+    folder.write("image", &image);
+    folder.write("trace", trace);
+    for bytes in [
+        &b"\xFF\n '\"$*\\"[..],
+        b"n\xC3",
+        b"\xED\xA0\x80",
+        b"\xC0\xAE",
+    ] {
+        let name = OsString::from_vec(bytes.to_vec());
+        let read = || fs::read(folder.path(&name)).expect("a file is read");
+        folder.write(&name, &image);
+        assert_eq!(
+            folder.run(&[&name, OsStr::new("trace")]),
+            TROUBLE,
+            "{name:?}"
+        );
+        assert!(read() == image, "{name:?}");
+        folder.write(&name, trace);
+        assert_eq!(
+            folder.run(&[OsStr::new("image"), &name]),
+            TROUBLE,
+            "{name:?}"
+        );
+        assert!(read() == trace, "{name:?}");
+    }
+    assert_eq!(folder.run(&["image", "trace"]), "0 1\n");
 }

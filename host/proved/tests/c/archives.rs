@@ -60,7 +60,7 @@ fn export_the_functions_of_the_headers_and_nothing_else() {
 #[test]
 fn need_what_their_headers_say() {
     let moving = ["memcpy", "memmove", "memset"].as_slice();
-    let needs = [moving, moving, moving, &["memset"]];
+    let needs = [&["memset"], moving, moving, &["memset"]];
     let headers = ["timing.h", "tfs_trace.h", "tfs.h", "romfs.h"];
     for ((library, header), needs) in LIBRARIES.into_iter().zip(headers).zip(needs) {
         let needed: Vec<String> = symbols("-u", library).into_iter().collect();
@@ -144,6 +144,35 @@ fn use_no_registers_but_general_and_sse_ones() {
         let other = listed
             .iter()
             .find(|line| others.iter().any(|name| line.contains(name)));
+        assert_eq!(other, None, "{library}");
+    }
+}
+
+/// Instructions that a processor for x86-64 may lack: those of SSE3, SSSE3, SSE4.1 and SSE4.2, which are legacy SSE by their
+/// form, and the general ones that came later. An older processor takes tzcnt for bsf, which compilers use where that is the same.
+const LATER: &str = "addsubpd addsubps haddpd haddps hsubpd hsubps lddqu movddup movshdup movsldup fisttp \
+    pshufb phaddw phaddd phaddsw phsubw phsubd phsubsw pmaddubsw pmulhrsw psignb psignw psignd pabsb pabsw pabsd palignr \
+    blendpd blendps blendvpd blendvps dppd dpps extractps insertps movntdqa mpsadbw packusdw pblendvb pblendw pcmpeqq \
+    pextrb pextrd pextrq phminposuw pinsrb pinsrd pinsrq pmaxsb pmaxsd pmaxud pmaxuw pminsb pminsd pminud pminuw \
+    pmovsxbw pmovsxbd pmovsxbq pmovsxwd pmovsxwq pmovsxdq pmovzxbw pmovzxbd pmovzxbq pmovzxwd pmovzxwq pmovzxdq \
+    pmuldq pmulld ptest roundpd roundps roundsd roundss pcmpestri pcmpestrm pcmpistri pcmpistrm pcmpgtq crc32 \
+    popcnt lzcnt andn bextr blsi blsmsk blsr bzhi mulx pdep pext rorx sarx shlx shrx adcx adox movbe cmpxchg16b \
+    lahf sahf aesenc aesenclast aesdec aesdeclast aesimc aeskeygenassist pclmulqdq sha1rnds4 sha256rnds2";
+
+#[test]
+fn run_on_every_x86_64_processor() {
+    let later: BTreeSet<&str> = LATER.split_whitespace().collect();
+    // AVX and what follows it has names with a v before.
+    let is_later = |name: &str| {
+        later.contains(name.trim_end_matches(['b', 'w', 'l', 'q'])) || later.contains(name)
+    };
+    for library in LIBRARIES {
+        let listed = instructions(library);
+        // A prefix, as rep, stands before the name.
+        let mut names = listed
+            .iter()
+            .flat_map(|line| line.split_whitespace().take(2));
+        let other = names.find(|name| is_later(name) || name.starts_with('v'));
         assert_eq!(other, None, "{library}");
     }
 }

@@ -37,7 +37,7 @@ fn missing(here: &Path) -> Vec<String> {
 
 /// The line of a library.
 fn line(library: &str) -> String {
-    format!("lib{library}.a is missing; make it with: rt staticlib {library}")
+    format!("lib{library}.a is missing; make it with: host/build.sh {library}")
 }
 
 #[test]

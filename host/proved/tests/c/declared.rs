@@ -58,10 +58,12 @@ fn length(text: &str, of: &str) -> usize {
     if let Ok(number) = of.parse() {
         return number;
     }
-    let uses = format!("::{of};");
-    let taken = text
-        .lines()
-        .find_map(|line| line.strip_suffix(&uses)?.strip_prefix("use "));
+    let taken = text.lines().find_map(|line| {
+        let used = line.strip_prefix("use ")?.strip_suffix(';')?;
+        let (from, names) = used.split_once("::")?;
+        let mut names = names.trim_matches(['{', '}']).split(", ");
+        names.any(|name| name == of).then_some(from)
+    });
     let there = source(taken.expect("the crate of a constant"));
     let value = between(&there, &format!("pub const {of}: usize = "), ";")
         .expect("a constant")
@@ -91,12 +93,24 @@ fn kind(text: &str, of: &str) -> Kind {
     }
 }
 
+/// A text behind the lines of attributes that it begins with.
+fn past_attributes(mut text: &str) -> &str {
+    while text.starts_with("#[") {
+        text = text.split_once('\n').expect("an item").1;
+    }
+    text
+}
+
 /// The structs that a crate declares for C.
 pub fn structs(crate_name: &str) -> Vec<Struct> {
     let text = source(crate_name);
     let mut found = Vec::new();
     let mut rest = text.as_str();
-    while let Some((declared, after)) = between(rest, "#[repr(C)]\npub struct ", "\n}") {
+    while let Some((_, item)) = rest.split_once("#[repr(C)]\n") {
+        let item = past_attributes(item).strip_prefix("pub struct ");
+        let (declared, after) = item
+            .and_then(|item| item.split_once("\n}"))
+            .expect("a struct");
         let (name, fields) = declared.split_once(" {\n").expect("fields");
         let field = |line: &str| {
             let line = line.trim().strip_prefix("pub ")?.strip_suffix(',')?;
