@@ -21,7 +21,7 @@
  * content of every buffer. No allocation, no global state; reading copies no
  * name and no bytes; recursion over the at most five groups of a number only,
  * under 4 KiB of stack as measured. The library is libtfs_trace_c.a; it needs
- * memcpy, memmove and memset. tfs_common.h says for what machine and ABI it is.
+ * memmove and memset. tfs_common.h says for what machine and ABI it is.
  *
  * What a request costs: tfs_trace_read looks at the numbers of one record,
  * tfs_trace_write copies its name and its bytes. tfs_replay does one check of

@@ -2,178 +2,105 @@
 // a full directory with and without free blocks.
 #![tactic(auto)]
 
-use std::io;
-use tfs::{Answer, CheckAnswer, Done, EntryAnswer, Fault, TransferAnswer};
+use answer_line::print_answer;
+use std::{fmt, io};
+use tfs::Entry;
 
-// ---- lines
+// What stands in a slot: nothing, or the file of an inode number.
+#[derive(Clone, Copy)]
+struct Slot(Option<Entry>);
 
-fn text(rt: &impl Print, words: &[u8]) -> io::Result<()> {
-    rt.write_all(words)
-}
-
-fn number(rt: &impl Print, n: u32) -> io::Result<()> {
-    print!(rt; "{n}")
-}
-
-fn refused(rt: &impl Print, n: u32) -> io::Result<()> {
-    text(rt, b"refused ")?;
-    number(rt, n)
-}
-
-fn fault(rt: &impl Print, f: Fault) -> io::Result<()> {
-    match f {
-        Fault::Header(n) => refused(rt, n),
-        Fault::Slot(n, slot) => {
-            refused(rt, n)?;
-            text(rt, b", slot ")?;
-            number(rt, slot)
-        }
-        Fault::Block(n, block) => {
-            refused(rt, n)?;
-            text(rt, b", block ")?;
-            number(rt, block)
+impl fmt::Display for Slot {
+    fn fmt<W: fmt::Write>(&self, f: &mut fmt::Formatter<W>) -> fmt::Result {
+        match self.0 {
+            None => write!(f, "free"),
+            Some(entry) => {
+                let inode = entry.inode;
+                write!(f, "{inode}")
+            }
         }
     }
 }
 
-fn checked(rt: &impl Print, what: &[u8], c: CheckAnswer) -> io::Result<()> {
-    text(rt, what)?;
-    match c {
-        CheckAnswer::Consistent => text(rt, b"consistent")?,
-        CheckAnswer::Refused(f) => fault(rt, f)?,
-    }
-    text(rt, b"\n")
+// ---- requests and their lines
+
+fn format(rt: &impl Print, what: &str, image: &mut [u8], label: &[u8]) -> io::Result<()> {
+    print_answer(rt, what, tfs::format(image, label).map(|()| "granted"))
 }
 
-fn done(rt: &impl Print, what: &[u8], d: Done) -> io::Result<()> {
-    text(rt, what)?;
-    match d {
-        Done::Granted => text(rt, b"granted")?,
-        Done::Refused(n) => refused(rt, n)?,
-        Done::Inconsistent(f) => fault(rt, f)?,
-    }
-    text(rt, b"\n")
+fn create(rt: &impl Print, what: &str, image: &mut [u8], name: &[u8], size: u32) -> io::Result<()> {
+    print_answer(rt, what, tfs::create(image, name, size))
 }
 
-fn answer(rt: &impl Print, what: &[u8], a: Answer) -> io::Result<()> {
-    text(rt, what)?;
-    match a {
-        Answer::Granted(n) => number(rt, n)?,
-        Answer::Refused(n) => refused(rt, n)?,
-        Answer::Inconsistent(f) => fault(rt, f)?,
-    }
-    text(rt, b"\n")
+fn remove(rt: &impl Print, what: &str, image: &mut [u8], name: &[u8]) -> io::Result<()> {
+    print_answer(rt, what, tfs::remove(image, name).map(|()| "granted"))
 }
 
-fn transfer(rt: &impl Print, what: &[u8], t: TransferAnswer) -> io::Result<()> {
-    text(rt, what)?;
-    match t {
-        TransferAnswer::Granted(moved) => number(rt, moved.count)?,
-        TransferAnswer::Refused(n) => refused(rt, n)?,
-        TransferAnswer::Inconsistent(f) => fault(rt, f)?,
-    }
-    text(rt, b"\n")
+fn check(rt: &impl Print, image: &[u8]) -> io::Result<()> {
+    print_answer(rt, "  check: ", tfs::check(image).map(|()| "consistent"))
 }
 
-fn listed(rt: &impl Print, what: &[u8], e: EntryAnswer) -> io::Result<()> {
-    text(rt, what)?;
-    match e {
-        EntryAnswer::Free => text(rt, b"free")?,
-        EntryAnswer::File(_, inode, _) => number(rt, inode)?,
-        EntryAnswer::Refused(n) => refused(rt, n)?,
-        EntryAnswer::Inconsistent(f) => fault(rt, f)?,
-    }
-    text(rt, b"\n")
+fn free_bytes(rt: &impl Print, image: &[u8]) -> io::Result<()> {
+    print_answer(rt, "  free bytes: ", tfs::free_bytes(image))
 }
 
 // ---- the numbers
 
 // The largest file is 65,024 bytes.
 fn sizes(rt: &impl Print, image: &mut [u8]) -> io::Result<()> {
-    done(rt, b"format 131 blocks: ", tfs::format(image, b"LARGE"))?;
-    answer(
+    format(rt, "format 131 blocks: ", image, b"LARGE")?;
+    create(rt, "  create 65025 bytes: ", image, b"FILE", 65025)?;
+    create(
         rt,
-        b"  create 65025 bytes: ",
-        tfs::create(image, b"FILE", 65025),
+        "  create 4294967295 bytes: ",
+        image,
+        b"FILE",
+        4294967295,
     )?;
-    answer(
-        rt,
-        b"  create 4294967295 bytes: ",
-        tfs::create(image, b"FILE", 4294967295),
-    )?;
-    answer(rt, b"  free bytes: ", tfs::free_bytes(image))
+    free_bytes(rt, image)
 }
 
 // Every request on an image of 1,535 bytes, in two halves.
 fn short(rt: &impl Print, image: &mut [u8]) -> io::Result<()> {
-    text(rt, b"1535 bytes\n")?;
-    done(rt, b"  format: ", tfs::format(image, b"SHORT"))?;
-    answer(rt, b"  create: ", tfs::create(image, b"FILE", 0))?;
-    done(rt, b"  remove: ", tfs::remove(image, b"FILE"))
+    println!(rt; "1535 bytes")?;
+    format(rt, "  format: ", image, b"SHORT")?;
+    create(rt, "  create: ", image, b"FILE", 0)?;
+    remove(rt, "  remove: ", image, b"FILE")
 }
 
 fn short_too(rt: &impl Print, image: &mut [u8]) -> io::Result<()> {
-    checked(rt, b"  check: ", tfs::check(image))?;
+    check(rt, image)?;
     let mut buf = [0u8; 8];
-    transfer(rt, b"  read: ", tfs::read(image, b"FILE", 0, &mut buf))?;
-    transfer(rt, b"  write: ", tfs::write(image, b"FILE", 0, b"12345678"))?;
-    let listing = tfs::list(image, 0);
-    let entry = listing.entry;
-    listed(rt, b"  list: ", entry)?;
-    answer(rt, b"  free bytes: ", tfs::free_bytes(image))
-}
-
-fn granted(a: Answer) -> bool {
-    match a {
-        Answer::Granted(_) => true,
-        Answer::Refused(_) => false,
-        Answer::Inconsistent(_) => false,
-    }
-}
-
-fn letter(k: u32) -> u8 {
-    65 + (k % 26) as u8
-}
-
-// Creates an empty file of one letter; whether it was granted.
-fn add(image: &mut [u8], k: u32) -> bool {
-    let name = [letter(k)];
-    granted(tfs::create(image, &name, 0))
+    let read = tfs::read(image, b"FILE", 0, &mut buf).map(|moved| moved.count);
+    print_answer(rt, "  read: ", read)?;
+    let written = tfs::write(image, b"FILE", 0, b"12345678").map(|moved| moved.count);
+    print_answer(rt, "  write: ", written)?;
+    print_answer(rt, "  list: ", tfs::list(image, 0).map(Slot))?;
+    free_bytes(rt, image)
 }
 
 // Creates empty files "A", "B" and so on, until one is refused; how many were granted.
-fn fill(image: &mut [u8]) -> u32 {
-    let mut k: u32 = 0;
-    while k < 26 && add(image, k) {
-        k += 1;
-    }
-    k
+fn fill(image: &mut [u8]) -> usize {
+    (b'A'..=b'Z')
+        .take_while(|letter| tfs::create(image, &[*letter], 0).is_ok())
+        .count()
 }
 
 // A name that stands in a full directory, and a new one.
 fn two_names(rt: &impl Print, image: &mut [u8]) -> io::Result<()> {
-    answer(rt, b"  create A: ", tfs::create(image, b"A", 0))?;
-    answer(
-        rt,
-        b"  create Y, 65024 bytes: ",
-        tfs::create(image, b"Y", 65024),
-    )?;
-    answer(rt, b"  create NEW: ", tfs::create(image, b"NEW", 0))?;
-    answer(
-        rt,
-        b"  create NEW, 65024 bytes: ",
-        tfs::create(image, b"NEW", 65024),
-    )
+    create(rt, "  create A: ", image, b"A", 0)?;
+    create(rt, "  create Y, 65024 bytes: ", image, b"Y", 65024)?;
+    create(rt, "  create NEW: ", image, b"NEW", 0)?;
+    create(rt, "  create NEW, 65024 bytes: ", image, b"NEW", 65024)
 }
 
 // A full directory.
-fn full(rt: &impl Print, image: &mut [u8]) -> io::Result<()> {
-    done(rt, b": ", tfs::format(image, b"FULL"))?;
-    text(rt, b"  empty files created: ")?;
-    number(rt, fill(image))?;
-    text(rt, b"\n")?;
-    checked(rt, b"  check: ", tfs::check(image))?;
-    answer(rt, b"  free bytes: ", tfs::free_bytes(image))?;
+fn full(rt: &impl Print, what: &str, image: &mut [u8]) -> io::Result<()> {
+    format(rt, what, image, b"FULL")?;
+    let created = fill(image);
+    println!(rt; "  empty files created: {created}")?;
+    check(rt, image)?;
+    free_bytes(rt, image)?;
     two_names(rt, image)
 }
 
@@ -183,15 +110,9 @@ fn main(rt: HostRuntime) -> io::Result<()> {
     let mut tiny = [0u8; 1535];
     short(&rt, &mut tiny)?;
     short_too(&rt, &mut tiny)?;
-    text(&rt, b"format 131 blocks")?;
-    full(&rt, &mut large)?;
+    full(&rt, "format 131 blocks: ", &mut large)?;
     let mut small = [0u8; 14336];
-    text(&rt, b"format 28 blocks")?;
-    full(&rt, &mut small)?;
-    done(&rt, b"  remove C: ", tfs::remove(&mut small, b"C"))?;
-    answer(
-        &rt,
-        b"  create NEW: inode number ",
-        tfs::create(&mut small, b"NEW", 0),
-    )
+    full(&rt, "format 28 blocks: ", &mut small)?;
+    remove(&rt, "  remove C: ", &mut small, b"C")?;
+    create(&rt, "  create NEW: inode number ", &mut small, b"NEW", 0)
 }

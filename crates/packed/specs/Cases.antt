@@ -1,7 +1,6 @@
 -- The outcome of a request, and a case in an input.
-use Rattle.std.specs.Prelude.{◌≡◌, ℕ, Bool, ◌&&◌, List, [], ◌∷◌, get_or, eqb, ltb, Option, MatchBool}
+use Rattle.std.specs.Prelude.{◌≡◌, ℕ, zero, suc, Bool, ◌&&◌, List, [], ◌∷◌, get_or, eqb, ltb, Option, MatchBool}
 use Rattle.lists.specs.Lists.{same_list}
-use Rattle.packed.specs.declared.cases.Given.{Given}
 use Rattle.packed.specs.declared.cases.Outcome.{Outcome}
 use Rattle.packed.specs.Input.{ReadsByte, ReadsNumber, ReadsLong, ReadsBytes}
 
@@ -14,25 +13,27 @@ zeros = 0 ∷ 0 ∷ 0 ∷ 0 ∷ 0 ∷ 0 ∷ []
 
 -- ---- what is read
 -- a case up to its request: into this much room each its name, its buffer and its image
-abbrev pub ReadsGiven : Option (List ℕ) → Option (List ℕ) → Given → ℕ → List ℕ → ℕ → List ℕ → ℕ → List ℕ → Type 0
-ReadsGiven old new given name_room name buf_room buf image_room image =
+abbrev pub ReadsCase : Option (List ℕ) → Option (List ℕ) → ℕ → ℕ → ℕ → List ℕ → ℕ → List ℕ → ℕ → List ℕ → Type 0
+ReadsCase old new request number name_room name buf_room buf image_room image =
     (a : Option (List ℕ)) × (b : Option (List ℕ)) × (c : Option (List ℕ)) × (d : Option (List ℕ))
-    × ReadsByte old a given.request × ReadsNumber a b given.number
+    × ReadsByte old a request × ReadsNumber a b number
     × ReadsBytes b c name_room name × ReadsBytes c d buf_room buf × ReadsBytes d new image_room image
 
 -- value k of so many; 0 where there are fewer
 abbrev pub ReadsValue : Option (List ℕ) → Option (List ℕ) → ℕ → ℕ → ℕ → Type 0
 ReadsValue old new k count v = MatchBool (ltb k count) (ReadsNumber old new v) ((new ≡ old) × (v ≡ 0))
 
+-- the first n of the values of so many
+abbrev pub ReadsValues : Option (List ℕ) → Option (List ℕ) → ℕ → ℕ → List ℕ → Type 0
+ReadsValues old new count zero values = new ≡ old
+ReadsValues old new count (suc n) values =
+    (mid : Option (List ℕ)) × ReadsValues old mid count n values × ReadsValue mid new n count (get_or values n 0)
+
 -- an outcome
 abbrev pub ReadsOutcome : Option (List ℕ) → Option (List ℕ) → Outcome → Type 0
 ReadsOutcome old new o =
-    (a : Option (List ℕ)) × (b : Option (List ℕ)) × (c : Option (List ℕ)) × (d : Option (List ℕ))
-    × (e : Option (List ℕ)) × (f : Option (List ℕ)) × (g : Option (List ℕ)) × (h : Option (List ℕ))
-    × ReadsNumber old a o.refusal × ReadsNumber a b o.place × ReadsNumber b c o.count
-    × ReadsValue c d 0 o.count (get_or o.values 0 0) × ReadsValue d e 1 o.count (get_or o.values 1 0)
-    × ReadsValue e f 2 o.count (get_or o.values 2 0) × ReadsValue f g 3 o.count (get_or o.values 3 0)
-    × ReadsValue g h 4 o.count (get_or o.values 4 0) × ReadsValue h new 5 o.count (get_or o.values 5 0)
+    (a : Option (List ℕ)) × (b : Option (List ℕ)) × (c : Option (List ℕ))
+    × ReadsNumber old a o.refusal × ReadsNumber a b o.place × ReadsNumber b c o.count × ReadsValues c new o.count 6 o.values
 
 -- ---- what comes out
 abbrev pub same_values : List ℕ → List ℕ → Bool

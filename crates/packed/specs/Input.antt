@@ -1,15 +1,15 @@
 -- What a reader loses where a number or bytes are read from it, and what is read.
-use Rattle.std.specs.Prelude.{◌≡◌, ℕ, ◌+◌, ◌*◌, ◌≤◌, ◌<◌, min, List, length, get_or, Option}
+use Rattle.std.specs.Prelude.{◌≡◌, ℕ, ◌+◌, ◌-◌, ◌*◌, ◌≤◌, ◌<◌, min, List, ◌++◌, length, get_or, Option}
 use Rattle.std.specs.Io.KnownBytes.{Consumes, IsAtEnd}
-use Rattle.lists.specs.Lists.{word}
+use Rattle.lists.specs.Lists.{word, zeros}
 
 -- these bytes: n, or fewer where the input has no more
 abbrev pub Loses : Option (List ℕ) → Option (List ℕ) → ℕ → List ℕ → Type 0
 Loses old new n bs = Consumes old new bs × (length bs ≤ n) × (length bs < n → IsAtEnd new)
 
--- what is left is the end of what there was, whether a read failed or not
-unfoldable pub EndOf : Option (List ℕ) → Option (List ℕ) → Type 0
-EndOf old new = (bs : List ℕ) × Consumes old new bs
+-- so many bytes, with zeros for those that are lacking
+abbrev pub ReadsPadded : Option (List ℕ) → Option (List ℕ) → ℕ → List ℕ → Type 0
+ReadsPadded old new n word = (bs : List ℕ) × Loses old new n bs × (word ≡ bs ++ zeros (n - length bs))
 
 -- a byte, which is 0 where there is none
 abbrev pub ReadsByte : Option (List ℕ) → Option (List ℕ) → ℕ → Type 0

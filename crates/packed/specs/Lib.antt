@@ -1,3 +1,4 @@
 pub mod Hash
 pub mod Input
 pub mod Cases
+pub mod Runs

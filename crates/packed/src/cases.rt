@@ -1,30 +1,45 @@
 // A case: a request with its arguments, and the outcome that it is to have. host/generate/src/bin/pack.rs has the form.
-ghost use Rattle.std.specs.Prelude.{◌≡◌, ◌≤◌, ◌&&◌, length, take, set, IfOk};
-ghost use Rattle.packed.specs.Cases.{outcome, zeros, ReadsGiven, ReadsValue, ReadsOutcome, same_values, same_outcome, ComesOut};
-ghost use Rattle.packed.specs.Input.{EndOf};
+ghost use Rattle.std.specs.Prelude.{◌≡◌, ◌≤◌, ◌&&◌, length, set, IfOk};
+ghost use Rattle.packed.specs.Cases.{outcome, zeros, ReadsCase, ReadsValue, ReadsValues, ReadsOutcome, same_outcome, ComesOut};
+ghost use Rattle.packed.specs.Runs.{Runs};
 ghost use Rattle.packed.specs.Hash.{hash_on};
+ghost use Rattle.reading.specs.Input.{EndOf};
 
-use crate::lines::{number, text};
-use std::io;
 use std::io::Read;
+use std::{fmt, io};
 
-// A request by its number, its argument that is a number, and the lengths of its name, buffer and image.
-#[derive(Clone, Copy)]
-pub struct Given {
-    pub request: u32,
+// A request by its number in the packed form, with its arguments, whose bytes stand in what was lent for them.
+#[derive(Drop)]
+pub struct Case<'a> {
+    pub request: u8,
     pub number: u32,
-    pub name: usize,
-    pub buf: usize,
-    pub image: usize,
+    pub name: &'a [u8],
+    pub buf: &'a mut [u8],
+    pub image: &'a mut [u8],
 }
 
-// A refusal with its place, or values.
-#[derive(Clone, Copy)]
+// What a request gave, as the packed form has it: a refusal with its place, or so many values.
+#[derive(Clone, Copy, PartialEq)]
 pub struct Outcome {
     pub refusal: u32,
     pub place: u32,
     pub count: u32,
     pub values: [u32; 6],
+}
+
+impl fmt::Display for Outcome {
+    fn fmt<W: fmt::Write>(&self, f: &mut fmt::Formatter<W>) -> fmt::Result {
+        let Outcome {
+            refusal,
+            place,
+            count,
+            values: [a, b, c, d, e, g],
+        } = *self;
+        write!(
+            f,
+            "refusal {refusal} at {place} and {count} values: {a}, {b}, {c}, {d}, {e}, {g}"
+        )
+    }
 }
 
 // ---- what a request gives
@@ -33,10 +48,10 @@ pub fn refused(refusal: u32, place: u32) -> Outcome
     ensures { result ≡ outcome refusal place 0 zeros }
 {
     Outcome {
-        refusal: refusal,
-        place: place,
+        refusal,
+        place,
         count: 0,
-        values: [0, 0, 0, 0, 0, 0],
+        values: [0; 6],
     }
 }
 
@@ -46,8 +61,8 @@ pub fn granted(count: u32, values: [u32; 6]) -> Outcome
     Outcome {
         refusal: 0,
         place: 0,
-        count: count,
-        values: values,
+        count,
+        values,
     }
 }
 
@@ -55,7 +70,7 @@ pub fn granted(count: u32, values: [u32; 6]) -> Outcome
 pub fn done() -> Outcome
     ensures { result ≡ outcome 0 0 0 zeros }
 {
-    granted(0, [0, 0, 0, 0, 0, 0])
+    granted(0, [0; 6])
 }
 
 // Granted, with one number.
@@ -67,33 +82,33 @@ pub fn one(value: u32) -> Outcome
 
 // ---- what the input has
 
-// The next case up to its request. Name, buffer and image stand at the start of what is lent for them.
-pub fn next<R: Read>(
+// The next case up to its request, into what is lent for its name, its buffer and its image.
+pub fn next<'a, R: Read>(
     input: &mut R,
-    name: &mut [u8],
-    buf: &mut [u8],
-    image: &mut [u8],
-) -> io::Result<Given>
-    ensures within { IfOk result (λ given. (given.name ≤ length name.new) × (given.buf ≤ length buf.new) × (given.image ≤ length image.new)) }
-    ensures lost { IfOk result (λ given. ReadsGiven (R.remaining input.old) (R.remaining input.new) given
-        (length name.old) (take given.name name.new) (length buf.old) (take given.buf buf.new) (length image.old) (take given.image image.new)) }
+    name: &'a mut [u8],
+    buf: &'a mut [u8],
+    image: &'a mut [u8],
+) -> io::Result<Case<'a>>
+    ensures lost { IfOk result (λ case. ReadsCase (R.remaining input.old) (R.remaining input.new) case.request case.number
+        (length name.old) case.name.now (length buf.old) case.buf.now (length image.old) case.image.now) }
     ensures left { EndOf (R.remaining input.old) (R.remaining input.new) }
 {
     let request = crate::byte(input)?;
     let number = crate::number(input)?;
-    let a = crate::bytes(input, name)?;
-    let b = crate::bytes(input, buf)?;
-    let c = crate::bytes(input, image)?;
-    Ok(Given {
-        request: request,
-        number: number,
-        name: a,
-        buf: b,
-        image: c,
+    let name = crate::bytes(input, name)?;
+    let buf = crate::bytes(input, buf)?;
+    let image = crate::bytes(input, image)?;
+    Ok(Case {
+        request,
+        number,
+        name,
+        buf,
+        image,
     })
 }
 
-#[tactic(auto, using(crate::proofs::Ends::end_of_same))]
+// Value number k of so many; 0 where there are fewer.
+#[tactic(auto, using(reading::proofs::Ends::end_of_same))]
 fn value<R: Read>(input: &mut R, k: u32, count: u32) -> io::Result<u32>
     ensures lost { IfOk result (λ v. ReadsValue (R.remaining input.old) (R.remaining input.new) k count v) }
     ensures left { EndOf (R.remaining input.old) (R.remaining input.new) }
@@ -104,6 +119,18 @@ fn value<R: Read>(input: &mut R, k: u32, count: u32) -> io::Result<u32>
     Ok(0)
 }
 
+// The six values of which there are so many.
+fn values<R: Read>(input: &mut R, count: u32) -> io::Result<[u32; 6]>
+    ensures lost { IfOk result (λ values. ReadsValues (R.remaining input.old) (R.remaining input.new) count 6 values) }
+    ensures left { EndOf (R.remaining input.old) (R.remaining input.new) }
+{
+    let mut values = [0; 6];
+    for k in 0..6u32 {
+        values[k as usize] = value(input, k, count)?;
+    }
+    Ok(values)
+}
+
 // The outcome that the case is to have.
 fn expected<R: Read>(input: &mut R) -> io::Result<Outcome>
     ensures lost { IfOk result (λ o. ReadsOutcome (R.remaining input.old) (R.remaining input.new) o) }
@@ -112,113 +139,80 @@ fn expected<R: Read>(input: &mut R) -> io::Result<Outcome>
     let refusal = crate::number(input)?;
     let place = crate::number(input)?;
     let count = crate::number(input)?;
-    let a = value(input, 0, count)?;
-    let b = value(input, 1, count)?;
-    let c = value(input, 2, count)?;
-    let d = value(input, 3, count)?;
-    let e = value(input, 4, count)?;
-    let f = value(input, 5, count)?;
+    let values = values(input, count)?;
     Ok(Outcome {
-        refusal: refusal,
-        place: place,
-        count: count,
-        values: [a, b, c, d, e, f],
+        refusal,
+        place,
+        count,
+        values,
     })
 }
 
 // ---- the two held against each other
 
-fn same_values(a: [u32; 6], b: [u32; 6]) -> bool
-    ensures { result ≡ same_values a b }
-{
-    a[0] == b[0] && a[1] == b[1] && a[2] == b[2] && a[3] == b[3] && a[4] == b[4] && a[5] == b[5]
-}
-
-fn same_outcome(a: Outcome, b: Outcome) -> bool
-    ensures { result ≡ same_outcome a b }
-{
-    let v = a.values;
-    let w = b.values;
-    a.refusal == b.refusal && a.place == b.place && a.count == b.count && same_values(v, w)
-}
-
-fn shown(rt: &impl Print, before: &[u8], o: Outcome) -> io::Result<()> {
-    let values = o.values;
-    number(rt, before, o.refusal)?;
-    number(rt, b" at ", o.place)?;
-    number(rt, b" and ", o.count)?;
-    number(rt, b" values: ", values[0])?;
-    number(rt, b", ", values[1])?;
-    number(rt, b", ", values[2])?;
-    number(rt, b", ", values[3])?;
-    number(rt, b", ", values[4])?;
-    number(rt, b", ", values[5])
-}
-
-fn difference(
-    rt: &impl Print,
-    k: u32,
-    request: u32,
-    want: Outcome,
-    got: Outcome,
-) -> io::Result<()> {
-    number(rt, b"case ", k)?;
-    number(rt, b", request ", request)?;
-    shown(rt, b": expected refusal ", want)?;
-    shown(rt, b"; got refusal ", got)?;
-    text(rt, b"\n")
-}
-
-fn other(rt: &impl Print, k: u32, what: &[u8]) -> io::Result<()> {
-    number(rt, b"case ", k)?;
-    text(rt, what)
-}
-
-fn judged(
-    rt: &impl Print,
-    k: u32,
-    request: u32,
-    want: Outcome,
-    got: Outcome,
-    told: bool,
-    left: bool,
-) -> io::Result<bool>
-    ensures { IfOk result (λ right. right ≡ (same_outcome want got && told && left)) }
-{
-    if !same_outcome(want, got) {
-        difference(rt, k, request, want, got)?;
-        return Ok(false);
+impl Case<'_> {
+    // Whether outcome, text, and what is left are right. If not, a line says in which way case number k differs.
+    fn judged(
+        &self,
+        rt: &impl Print,
+        k: u32,
+        want: Outcome,
+        got: Outcome,
+        told: bool,
+        left: bool,
+    ) -> io::Result<bool>
+        ensures { IfOk result (λ right. right ≡ (same_outcome want got && told && left)) }
+    {
+        let request = self.request;
+        if want != got {
+            println!(rt; "case {k}, request {request}: expected {want}; got {got}")?;
+            return Ok(false);
+        }
+        if !told {
+            println!(rt; "case {k}: name or content differs")?;
+            return Ok(false);
+        }
+        if !left {
+            println!(rt; "case {k}: image or buffer differs")?;
+        }
+        Ok(left)
     }
-    if !told {
-        other(rt, k, b": name or content differs\n")?;
-        return Ok(false);
+
+    // Whether the case, number k, comes out as expected: what its request gave, its text (a name or a content), and what it left in
+    // image and buffer. A line says what differs.
+    pub fn comes_out<R: Read>(
+        &self,
+        rt: &impl Print,
+        input: &mut R,
+        k: u32,
+        got: Outcome,
+        text: &[u8],
+    ) -> io::Result<bool>
+        ensures right { IfOk result (λ right. ComesOut (R.remaining input.old) (R.remaining input.new) got text.now
+            (hash_on (hash_on 14695981039346656037 self.now.image.now) self.now.buf.now) right) }
+        ensures left { EndOf (R.remaining input.old) (R.remaining input.new) }
+    {
+        let want = expected(input)?;
+        let mut room = [0u8; 4096];
+        let content = crate::bytes(input, &mut room)?;
+        let told = text == content;
+        let left = crate::long_number(input)? == crate::hash_both(self.image, self.buf);
+        self.judged(rt, k, want, got, told, left)
     }
-    if !left {
-        other(rt, k, b": image or buffer differs\n")?;
-    }
-    Ok(left)
 }
 
-// Whether case number k comes out as expected: what its request gave, its text (a name or a content), and what it left in image
-// and buffer. A line says what differs.
-pub fn comes_out<R: Read>(
-    rt: &impl Print,
-    input: &mut R,
-    k: u32,
-    request: u32,
-    got: Outcome,
-    text: &[u8],
-    image: &[u8],
-    buf: &[u8],
-) -> io::Result<bool>
-    ensures right { IfOk result (λ right. ComesOut (R.remaining input.old) (R.remaining input.new) got text.now
-        (hash_on (hash_on 14695981039346656037 image.now) buf.now) right) }
-    ensures left { EndOf (R.remaining input.old) (R.remaining input.new) }
+// ---- many cases
+
+// Runs so many cases, by their numbers from 1 on; how many come out otherwise than expected.
+pub fn differing<F: FnMut(u32) -> io::Result<bool>>(count: u32, mut comes_out: F) -> io::Result<u32>
+    requires { F.IsAlwaysCallable comes_out }
+    ensures { IfOk result (λ differ. (last : F) × Runs F.step comes_out count last differ) }
 {
-    let want = expected(input)?;
-    let mut space = [0u8; 4096];
-    let n = crate::bytes(input, &mut space)?;
-    let told = spans::search::same(text, &space[0..n]);
-    let left = crate::long_number(input)? == crate::hash_both(image, buf);
-    judged(rt, k, request, want, got, told, left)
+    let mut differ = 0;
+    for k in 0..count {
+        if !comes_out(k + 1)? {
+            differ += 1;
+        }
+    }
+    Ok(differ)
 }

@@ -1,7 +1,7 @@
 -- What the program has of its two files, and what it makes of them.
-use Rattle.std.specs.Prelude.{◌≡◌, Bool, cond, ◌&&◌, ℕ, List, ◌++◌, length, drop, leb}
+use Rattle.std.specs.Prelude.{Bool, cond, ◌&&◌, ℕ, List, length, leb}
 use Rattle.std.proofs.Math.Option.{Option, none, some}
-use Rattle.tfs_spec.specs.Replays.{replay, line_bytes}
+use Rattle.tfs_spec.specs.Replays.{replay}
 
 -- a file's bytes, or none where it was not read whole
 abbrev pub file_of : Bool → List ℕ → Option (List ℕ)
@@ -14,8 +14,3 @@ replayable img image_read t trace_read = image_read && (trace_read && (leb (leng
 -- the bytes of the image in memory afterwards; the file stays
 abbrev pub image_after : List ℕ → Bool → List ℕ → Bool → List ℕ
 image_after img image_read t trace_read = cond (replayable img image_read t trace_read) (replay 512 img t).image img
-
--- the line of these numbers, of length r, at the start of a buffer whose rest is kept
-pub record Lined (numbers old new : List ℕ) (r : ℕ) : Type 0 where
-  pub long : r ≡ length (line_bytes numbers)
-  pub buffer : new ≡ line_bytes numbers ++ drop r old

@@ -1,1 +1,2 @@
+pub mod Error
 pub mod Told

@@ -1,130 +1,122 @@
-// What each request does on an image that the check accepts, and the fault of one that it does not.
-ghost use Rattle.std.specs.Prelude.{◌≡◌, true, ◌<◌, length};
-ghost use Rattle.romfs_spec.specs.Layout.{content_at};
-ghost use Rattle.romfs_spec.specs.Check.{accepted};
-ghost use Rattle.romfs_spec.specs.Check as rules;
+// What each request does on an image that the check accepts.
+ghost use Rattle.std.specs.Prelude.{◌≡◌, ◌==◌, ◌<◌, true, length, IfSome, IfErr};
+ghost use Rattle.romfs_spec.specs.Layout.{type_of_file, content_at};
 ghost use Rattle.romfs_spec.specs.Requests.{first_of, is_directory, match_from, find_step, entry_step, content_step, start_of};
 ghost use Rattle.romfs_facts.specs.Tested.{IsReached};
-ghost use Rattle.romfs_links.specs.Known.{Walked};
-ghost use Rattle.romfs.specs.Told.{fault_of, find_told, FindFits, entry_told, EntryFits, part_told, part_start, PartFits};
+ghost use Rattle.romfs_headers.specs.Known.{some_unless};
+ghost use Rattle.romfs_refusal.specs.Told.{step_told};
+ghost use Rattle.romfs_refusal.specs.declared.Refusal.TheVariants as refusal;
+ghost use Rattle.romfs.specs.Told.{as_it_is, entry_of, length_of, part_start, PartFits};
 
-use crate::{EntryAnswer, Fault, FindAnswer, PartAnswer};
-
-// The fault of a number and a place.
-pub fn fault_of(n: u32, p: u32) -> Fault
-    ensures { result ≡ fault_of n p }
-{
-    if n < 26 {
-        return Fault::Volume(n);
-    }
-    Fault::Header(n, p)
-}
+use crate::parts::{Header, Part};
+use romfs_check::Checked;
+use romfs_headers::FileType;
+use romfs_headers::words::{name_is, offset};
+use romfs_links::Tree;
+use romfs_refusal::Refusal;
 
 // ---- find
 
-fn is_directory(image: &[u8], full: usize, dir: usize) -> bool
-    requires { Walked image.now full }
-    ensures { result ≡ is_directory image.now dir }
+fn has_type_directory(header: romfs_headers::Header<'_>) -> bool
+    ensures { result ≡ (type_of_file header.entry.image.bytes.now header.entry.at == 1) }
 {
-    if dir == 0 {
-        return true;
-    }
-    if !romfs_links::seek::is_reached(image, full, dir) {
-        return false;
-    }
-    romfs_headers::file_type_of(image, dir) == 1
+    header.file_type() == FileType::Directory
 }
 
-// The first header of a directory's list, or 0. Directory 0 is the root.
-fn first_of(image: &[u8], full: usize, dir: usize) -> usize
-    requires { Walked image.now full × (is_directory image.now dir ≡ true) }
-    ensures { result ≡ first_of image.now dir }
+fn is_directory(tree: Tree<'_>, dir: usize) -> bool
+    ensures { result ≡ is_directory tree.entry.image.bytes.now dir }
 {
-    if dir == 0 {
-        let first = romfs_headers::first_root(image, full);
-        if first == full {
-            return 0;
-        }
-        return first;
-    }
-    romfs_headers::info_of(image, dir)
+    dir == 0 || tree.is_reached(dir) && has_type_directory(tree.header(dir))
 }
 
-// The first header of that name from a header on, or 0.
-fn match_from(image: &[u8], full: usize, first: usize, name: &[u8]) -> usize
-    requires { Walked image.now full × IsReached image.now first }
-    ensures { (result ≡ match_from image.now name.now full first) × (result < 4294967296) }
+// The first header of a directory's list. Directory 0 is the root.
+fn first_of(tree: Tree<'_>, dir: usize) -> Option<usize>
+    requires { is_directory tree.image.bytes.now dir ≡ true }
+    ensures { result ≡ some_unless 0 (first_of tree.entry.image.bytes.now dir) }
+{
+    if dir == 0 {
+        tree.first_root()
+    } else {
+        offset(tree.header(dir).info())
+    }
+}
+
+// The first header of that name from a header on.
+fn match_from(tree: Tree<'_>, first: usize, name: &[u8]) -> Option<usize>
+    requires { IsReached tree.image.bytes.now first }
+    ensures small { IfSome result (λ at. at < 4294967296) }
+    ensures first { result ≡ some_unless 0 (match_from tree.entry.image.bytes.now name.now tree.entry.image.full first) }
 {
     let mut p = first;
+    // Along next, by what the image holds: there is no count to go by.
     loop {
-        let n = romfs_headers::name_length(image, p + 16, full);
-        if romfs_headers::name_is(image, p + 16, n, name) {
-            return p;
+        let header = tree.header(p).named();
+        if name_is(tree.image.bytes, p + 16, header.name_length, name) {
+            return Some(p);
         }
-        let next = romfs_headers::next_of(image, p);
-        if next == 0 {
-            return 0;
-        }
-        p = next;
+        p = header.header.next()?;
     }
 }
 
-pub fn find_step(image: &[u8], dir: usize, name: &[u8]) -> FindAnswer
-    requires { rules.check image.now ≡ accepted }
-    ensures { (find_told result ≡ find_step image.now dir name.now) × FindFits result }
+#[tactic(auto, unfolding(romfs_spec::specs::Requests::find_step, romfs_spec::specs::Requests::match_in))]
+pub fn find_step(checked: Checked<'_>, dir: usize, name: &[u8]) -> Result<u32, Refusal>
+    ensures { step_told as_it_is result ≡ find_step checked.entry.tree.image.bytes.now dir name.now }
 {
-    let full = romfs_headers::full_size(image);
-    if !is_directory(image, full, dir) {
-        return FindAnswer::Refused(31);
+    let tree = checked.tree;
+    if !is_directory(tree, dir) {
+        return Err(Refusal::NoSuchHeader);
     }
-    let first = first_of(image, full, dir);
-    if first == 0 {
-        return FindAnswer::Refused(30);
+    let Some(first) = first_of(tree, dir) else {
+        return Err(Refusal::NoSuchName);
+    };
+    match match_from(tree, first, name) {
+        Some(at) => Ok(at as u32),
+        None => Err(Refusal::NoSuchName),
     }
-    let at = match_from(image, full, first, name);
-    if at == 0 {
-        return FindAnswer::Refused(30);
-    }
-    FindAnswer::Found(at as u32)
 }
 
 // ---- entry
 
-pub fn entry_step(image: &[u8], at: usize) -> EntryAnswer
-    requires { rules.check image.now ≡ accepted }
-    ensures { (entry_told result ≡ entry_step image.now at) × EntryFits result }
+#[tactic(auto, unfolding(romfs_spec::specs::Requests::entry_step, romfs_spec::specs::Requests::entry_at))]
+pub fn entry_step(checked: Checked<'_>, at: usize) -> Result<Header, Refusal>
+    ensures answer { step_told entry_of result ≡ entry_step checked.entry.tree.image.bytes.now at }
+    ensures refusal { IfErr result (λ r. r ≡ refusal.NoSuchHeader) }
 {
-    let full = romfs_headers::full_size(image);
-    if !romfs_links::seek::is_reached(image, full, at) {
-        return EntryAnswer::Refused(31);
+    let tree = checked.tree;
+    if !tree.is_reached(at) {
+        return Err(Refusal::NoSuchHeader);
     }
-    EntryAnswer::Entry {
-        file_type: romfs_headers::file_type_of(image, at) as u32,
-        executable: romfs_headers::executable_of(image, at) as u32,
-        info: romfs_headers::info_of(image, at) as u32,
-        size: romfs_headers::size_of(image, at) as u32,
-        next: romfs_headers::next_of(image, at) as u32,
-        name_length: romfs_headers::name_length(image, at + 16, full) as u32,
-    }
+    let header = tree.header(at);
+    let name_length = header.named().name_length;
+    Ok(Header {
+        file_type: header.file_type(),
+        executable: header.is_executable(),
+        info: header.info() as u32,
+        size: header.size() as u32,
+        next: header.next().unwrap_or(0) as u32,
+        name_length: name_length as u32,
+    })
 }
 
 // ---- content
 
-pub fn content_step(image: &[u8], at: usize) -> PartAnswer
-    requires { rules.check image.now ≡ accepted }
-    ensures { (part_told result ≡ content_step image.now at) × (part_start result ≡ start_of (content_at image.now at) (content_step image.now at)) × PartFits (length image.now) result }
+#[tactic(auto, unfolding(romfs_spec::specs::Requests::content_step))]
+pub fn content_step(checked: Checked<'_>, at: usize) -> Result<Part, Refusal>
+    ensures answer { step_told length_of result ≡ content_step checked.entry.tree.image.bytes.now at }
+    ensures start { part_start result ≡ start_of (content_at checked.entry.tree.image.bytes.now at) (content_step checked.entry.tree.image.bytes.now at) }
+    ensures within { PartFits (length checked.entry.tree.image.bytes.now) result }
+    ensures refusal { IfErr result (λ r. r ≡ refusal.NoSuchHeader) }
 {
-    let full = romfs_headers::full_size(image);
-    if !romfs_links::seek::is_reached(image, full, at) {
-        return PartAnswer::Refused(31);
+    let tree = checked.tree;
+    if !tree.is_reached(at) {
+        return Err(Refusal::NoSuchHeader);
     }
-    if !romfs_headers::has_data(romfs_headers::file_type_of(image, at)) {
-        return PartAnswer::Refused(31);
+    let header = tree.header(at);
+    if !header.file_type().has_data() {
+        return Err(Refusal::NoSuchHeader);
     }
-    let size = romfs_headers::size_of(image, at);
-    let n = romfs_headers::name_length(image, at + 16, full);
-    PartAnswer::Part {
-        offset: romfs_headers::after_name(at + 16, n) as u32,
-        length: size as u32,
-    }
+    Ok(Part {
+        offset: header.named().content_at() as u32,
+        length: header.size() as u32,
+    })
 }

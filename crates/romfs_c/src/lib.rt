@@ -5,10 +5,7 @@ ghost use Rattle.std.specs.Prelude.{◌≡◌};
 ghost use Rattle.romfs_spec.specs.Check as rules;
 ghost use Rattle.romfs_spec.specs.Requests as requests;
 ghost use Rattle.romfs_spec.specs.Requests.{checked, granted, refused};
-ghost use Rattle.romfs.specs.Told.{fault_answer, find_told, entry_told, part_told, part_start};
-ghost use Rattle.romfs_c.specs.Result.{checked_answer, result_of, header_of, content_of, Tells, TellsHeader, TellsPart};
-
-use romfs::{CheckAnswer, EntryAnswer, Fault, FindAnswer, PartAnswer};
+ghost use Rattle.romfs_c.specs.Result.{result_of, header_of, content_of};
 
 // The refusal's number, 0 for granted; its place; the value granted.
 #[repr(C)]
@@ -43,35 +40,23 @@ pub struct RomfsPart {
     pub length: u32,
 }
 
-// ---- check and find
-
-fn of_fault(f: Fault) -> RomfsResult
-    ensures { Tells result (fault_answer f) }
+fn granted(value: u32) -> RomfsResult
+    ensures { result ≡ result_of (granted value) }
 {
-    match f {
-        Fault::Volume(n) => RomfsResult {
-            refusal: n,
-            place: 0,
-            value: 0,
-        },
-        Fault::Header(n, p) => RomfsResult {
-            refusal: n,
-            place: p,
-            value: 0,
-        },
+    RomfsResult {
+        refusal: 0,
+        place: 0,
+        value,
     }
 }
 
-fn of_check(c: CheckAnswer) -> RomfsResult
-    ensures { Tells result (checked_answer c) }
+fn refused(refusal: u32, place: u32) -> RomfsResult
+    ensures { result ≡ result_of (refused refusal place) }
 {
-    match c {
-        CheckAnswer::Accepted => RomfsResult {
-            refusal: 0,
-            place: 0,
-            value: 0,
-        },
-        CheckAnswer::Refused(f) => of_fault(f),
+    RomfsResult {
+        refusal,
+        place,
+        value: 0,
     }
 }
 
@@ -80,24 +65,9 @@ fn of_check(c: CheckAnswer) -> RomfsResult
 pub extern "C" fn romfs_check(image: &[u8]) -> RomfsResult
     ensures { result ≡ result_of (checked (rules.check image.now) (granted 0)) }
 {
-    of_check(romfs::check(image))
-}
-
-fn of_find(a: FindAnswer) -> RomfsResult
-    ensures { Tells result (find_told a) }
-{
-    match a {
-        FindAnswer::Found(p) => RomfsResult {
-            refusal: 0,
-            place: 0,
-            value: p,
-        },
-        FindAnswer::Refused(n) => RomfsResult {
-            refusal: n,
-            place: 0,
-            value: 0,
-        },
-        FindAnswer::Inconsistent(f) => of_fault(f),
+    match romfs::check(image) {
+        Ok(()) => granted(0),
+        Err(fault) => refused(fault.rule(), fault.place()),
     }
 }
 
@@ -106,17 +76,18 @@ fn of_find(a: FindAnswer) -> RomfsResult
 pub extern "C" fn romfs_find(image: &[u8], directory: u32, name: &[u8]) -> RomfsResult
     ensures { result ≡ result_of (requests.find image.now directory name.now) }
 {
-    of_find(romfs::find(image, directory, name))
+    match romfs::find(image, directory, name) {
+        Ok(at) => granted(at),
+        Err(error) => refused(error.number(), error.place()),
+    }
 }
 
-// ---- entry
-
 fn no_header(refusal: u32, place: u32) -> RomfsHeader
-    ensures { TellsHeader result (refused refusal place) }
+    ensures { result ≡ header_of (refused refusal place) }
 {
     RomfsHeader {
-        refusal: refusal,
-        place: place,
+        refusal,
+        place,
         file_type: 0,
         executable: 0,
         info: 0,
@@ -126,87 +97,23 @@ fn no_header(refusal: u32, place: u32) -> RomfsHeader
     }
 }
 
-fn fault_header(f: Fault) -> RomfsHeader
-    ensures { TellsHeader result (fault_answer f) }
-{
-    match f {
-        Fault::Volume(n) => no_header(n, 0),
-        Fault::Header(n, p) => no_header(n, p),
-    }
-}
-
-fn of_entry(a: EntryAnswer) -> RomfsHeader
-    ensures { TellsHeader result (entry_told a) }
-{
-    match a {
-        EntryAnswer::Refused(n) => no_header(n, 0),
-        EntryAnswer::Inconsistent(f) => fault_header(f),
-        EntryAnswer::Entry {
-            file_type,
-            executable,
-            info,
-            size,
-            next,
-            name_length,
-        } => RomfsHeader {
-            refusal: 0,
-            place: 0,
-            file_type: file_type,
-            executable: executable,
-            info: info,
-            size: size,
-            next: next,
-            name_length: name_length,
-        },
-    }
-}
-
 // The entry at a header.
 #[unsafe(no_mangle)]
 pub extern "C" fn romfs_entry(image: &[u8], at: u32) -> RomfsHeader
     ensures { result ≡ header_of (requests.entry image.now at) }
 {
-    of_entry(romfs::entry(image, at))
-}
-
-// ---- content
-
-fn no_part(f: Fault) -> RomfsPart
-    ensures { TellsPart result 0 (fault_answer f) }
-{
-    match f {
-        Fault::Volume(n) => RomfsPart {
-            refusal: n,
-            place: 0,
-            offset: 0,
-            length: 0,
-        },
-        Fault::Header(n, p) => RomfsPart {
-            refusal: n,
-            place: p,
-            offset: 0,
-            length: 0,
-        },
-    }
-}
-
-fn of_part(a: PartAnswer) -> RomfsPart
-    ensures { TellsPart result (part_start a) (part_told a) }
-{
-    match a {
-        PartAnswer::Refused(n) => RomfsPart {
-            refusal: n,
-            place: 0,
-            offset: 0,
-            length: 0,
-        },
-        PartAnswer::Inconsistent(f) => no_part(f),
-        PartAnswer::Part { offset, length } => RomfsPart {
+    match romfs::entry(image, at) {
+        Ok(header) => RomfsHeader {
             refusal: 0,
             place: 0,
-            offset: offset,
-            length: length,
+            file_type: header.file_type.number(),
+            executable: u32::from(header.executable),
+            info: header.info,
+            size: header.size,
+            next: header.next,
+            name_length: header.name_length,
         },
+        Err(error) => no_header(error.number(), error.place()),
     }
 }
 
@@ -215,5 +122,18 @@ fn of_part(a: PartAnswer) -> RomfsPart
 pub extern "C" fn romfs_content(image: &[u8], at: u32) -> RomfsPart
     ensures { result ≡ content_of (requests.content_start image.now at) (requests.content_length image.now at) }
 {
-    of_part(romfs::content_part(image, at))
+    match romfs::content_part(image, at) {
+        Ok(part) => RomfsPart {
+            refusal: 0,
+            place: 0,
+            offset: part.offset,
+            length: part.length,
+        },
+        Err(error) => RomfsPart {
+            refusal: error.number(),
+            place: error.place(),
+            offset: 0,
+            length: 0,
+        },
+    }
 }

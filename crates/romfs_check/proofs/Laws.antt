@@ -1,25 +1,17 @@
 -- Laws of the walks, one for each way that the code takes.
-use Prim.Native.Nat.{ℕ, suc, ◌+◌, ◌-◌, ◌/◌, ◌%◌, ◌≤◌, ◌<◌, min}
+use Prim.Native.Nat.{ℕ, suc, ◌+◌, ◌-◌, ◌≤◌, ◌<◌}
 use mathlib.Core.Path.{◌≡◌, refl, sym, ap, subst, ◌∙◌}
-use mathlib.Core.Bool.{Bool, true, false, not, ◌&&◌, ◌||◌}
+use mathlib.Core.Bool.{true, false}
 use mathlib.Core.List.{List}
 use native.Mathlib.Omega.{arith}
-use borrow.Author.Tests.{eq-eqb, ne_eqb, lt-ltb, le-ltb, ltb-false}
-use lib.Dec.{ltb, eqb}
-use lib.ListN.{length}
-use Rattle.lists.specs.Lists.{least}
-use Rattle.romfs_spec.specs.Layout.{full_size, first_root, name_length, name_ends, sum_of_words, next, info, own, has_list}
-use Rattle.romfs_spec.specs.Check.{Verdict, accepted, broken, too_short, bad_magic, bad_full_size, bad_volume_sum, bad_volume_name, fault, and_then, visit_list, visit_entry, visit_all, walk, volume, is_reached, bad_link, links, check}
+use Rattle.romfs_spec.specs.Layout.{full_size, first_root, next, info, own, has_list}
+use Rattle.romfs_spec.specs.Check.{Verdict, accepted, broken, fault, and_then, visit_list, visit_entry, visit_all}
 use Rattle.romfs_facts.specs.Tested.{Reached, root, along, inside, Sound}
-use Rattle.list_laws.specs.Test.{or-no-l, or-no-r}
 use Rattle.romfs_facts.specs.Facts.{room, ends, own-to, first_to, depth-to, fault-sound, list-descends, list-first}
 use Rattle.romfs_facts.specs.Visit.{list-refused, list-last, list-next, entry-refused, entry-leaf, entry-list, entry-test}
 use Rattle.romfs_facts.specs.Walked.{Volume, root-to, visit-none, visit-root}
-use Rattle.romfs_headers.specs.Known.{Whole, Reads, step_of, step-reads}
 use Rattle.romfs_check.specs.Known.{Here}
 use Rattle.romfs_links.specs.Facts.{sound-next}
-use Rattle.romfs_headers.specs.declared.Step.{Step}
-use Rattle.romfs_headers.specs.declared.Step.TheVariants as step
 
 -- ---- the walk
 -- the list from at on is what is left of it from p on, at some fuel that is enough
@@ -57,40 +49,35 @@ reached-below s bound left p l m r f o t e g =
 
 -- ---- a step
 module _ (s : List ℕ) (full p bound left : ℕ) (h : Here s full p bound left) where
-  module _ (x : Step) (e : x ≡ step_of s bound left p) where
-    reads : {y : Step} → x ≡ y → Reads s bound left p y
-    reads f = subst (Reads s bound left p) f (step-reads s bound left p x e)
+  pub step-broken : (n q : ℕ) → broken n q ≡ fault s bound (8 - left) p → broken n q ≡ visit_entry s (fault s) left bound p
+  step-broken n q e = sym (entry-refused s (fault s) bound p left (8 - left) n q (omega (arith, h.deep)) (sym e))
 
-    pub step-broken : (n : ℕ) → x ≡ step.Broken n → broken n p ≡ visit_entry s (fault s) left bound p
-    step-broken n f = sym (entry-refused s (fault s) bound p left (8 - left) n p (omega (arith, h.deep)) (reads f))
-
-    pub step-leaf : x ≡ step.Leaf → accepted ≡ visit_entry s (fault s) left bound p
-    step-leaf f = let r = reads f in sym (entry-leaf s (fault s) bound p left (8 - left) (omega (arith, h.deep)) r.0 r.1)
+  -- an entry without a fault
+  module _ (e : accepted ≡ fault s bound (8 - left) p) where
+    pub step-leaf : has_list s p ≡ false → accepted ≡ visit_entry s (fault s) left bound p
+    step-leaf t = sym (entry-leaf s (fault s) bound p left (8 - left) (omega (arith, h.deep)) (sym e) t)
 
     -- the list of an entry
-    module _ (first own₂ : ℕ) (f : x ≡ step.List first own₂) where
+    module _ (first own₂ : ℕ) (t : has_list s p ≡ true) (f : first ≡ info s p) (o : own₂ ≡ own s bound p) where
       here-sound : Sound s p bound (8 - left)
-      here-sound = fault-sound s p bound (8 - left) (reads f).0
+      here-sound = fault-sound s p bound (8 - left) (sym e)
 
       pub some_left : 1 ≤ left
-      some_left = omega (arith, depth-to s p bound (8 - left) here-sound (reads f).1)
+      some_left = omega (arith, depth-to s p bound (8 - left) here-sound t)
 
       pub step-below : Here s full first own₂ (left - 1)
-      step-below =
-          let r = reads f in
-          record {
-            whole = h.whole;
-            before = omega (arith, first_to s p bound (8 - left) here-sound r.1, r.2, r.3);
-            within = omega (arith, own-to s p bound (8 - left) here-sound, r.3, h.within);
-            deep = omega (arith, h.deep);
-            reached = reached-below s bound left p h.deep some_left h.reached first own₂ r.1 r.2 r.3;
-          }
+      step-below = record {
+        whole = h.whole;
+        before = omega (arith, first_to s p bound (8 - left) here-sound t, f, o);
+        within = omega (arith, own-to s p bound (8 - left) here-sound, o, h.within);
+        deep = omega (arith, h.deep);
+        reached = reached-below s bound left p h.deep some_left h.reached first own₂ t f o;
+      }
 
       pub step-list : visit_list s (visit_entry s (fault s) (left - 1) own₂) (own₂ - first) first ≡ visit_entry s (fault s) left bound p
       step-list =
-          let r = reads f in
           let k = some_left in
-          rw (r.2, r.3) (sym (entry-list s (fault s) bound p left (8 - left) (omega (arith, h.deep)) (omega arith) r.0 r.1))
+          rw (f, o) (sym (entry-list s (fault s) bound p left (8 - left) (omega (arith, h.deep)) (omega arith) (sym e) t))
 
   -- an accepted entry
   module _ (e : accepted ≡ visit_entry s (fault s) left bound p) where
@@ -105,56 +92,6 @@ module _ (s : List ℕ) (full p bound left : ℕ) (h : Here s full p bound left)
         let k = sound-next s bound (8 - left) p q visited-sound f z in
         (k.0, record { whole = h.whole; before = k.1; within = h.within; deep = h.deep; reached = reached-next s bound (8 - left) p h.reached q f z })
 
--- ---- rules 21 to 25
-module _ (s : List ℕ) where
-  pub volume-21 : length s < 32 → broken 21 0 ≡ volume s
-  unfolding volume too_short
-  volume-21 a = rw (lt-ltb (length s) 32 a)
-
-  pub volume-22 : 32 ≤ length s → bad_magic s ≡ true → broken 22 0 ≡ volume s
-  unfolding volume too_short
-  volume-22 a b = rw (le-ltb (length s) 32 a, b)
-
-  pub volume-23 : 32 ≤ length s → bad_magic s ≡ false → bad_full_size s ≡ true → broken 23 0 ≡ volume s
-  unfolding volume too_short
-  volume-23 a b c = rw (le-ltb (length s) 32 a, b, c)
-
-  pub volume-24 : 32 ≤ length s → bad_magic s ≡ false → bad_full_size s ≡ false → bad_volume_sum s ≡ true → broken 24 0 ≡ volume s
-  unfolding volume too_short
-  volume-24 a b c d = rw (le-ltb (length s) 32 a, b, c, d)
-
-  pub volume-25 : 32 ≤ length s → bad_magic s ≡ false → bad_full_size s ≡ false → bad_volume_sum s ≡ false → bad_volume_name s ≡ true → broken 25 0 ≡ volume s
-  unfolding volume too_short
-  volume-25 a b c d e = rw (le-ltb (length s) 32 a, b, c, d, e)
-
-  pub volume-fine : 32 ≤ length s → bad_magic s ≡ false → bad_full_size s ≡ false → bad_volume_sum s ≡ false → bad_volume_name s ≡ false → accepted ≡ volume s
-  unfolding volume too_short
-  volume-fine a b c d e = rw (le-ltb (length s) 32 a, b, c, d, e)
-
-  pub size-test : (r : Bool) (full len : ℕ) → r ≡ (ltb full 32 || (ltb len full || not (eqb (full % 16) 0))) → full ≡ full_size s → len ≡ length s → r ≡ bad_full_size s
-  unfolding bad_full_size
-  size-test r full len h e f = rw (← e, ← f) h
-
-  pub sum-test : (r m full : ℕ) → r ≡ sum_of_words s 0 (m / 4) → m ≡ min 512 full → full ≡ full_size s → not (eqb r 0) ≡ bad_volume_sum s
-  unfolding bad_volume_sum
-  sum-test r m full h e f = rw (← f, ← e, ← h)
-
-  pub name-bad : (n full : ℕ) → n ≡ name_length s 16 → full ≡ full_size s → full ≤ 16 + n → bad_volume_name s ≡ true
-  unfolding bad_volume_name name_ends
-  name-bad n full e f h = rw (← e, ← f, le-ltb (16 + n) full h)
-
-  pub name-fine : (n full : ℕ) → n ≡ name_length s 16 → full ≡ full_size s → 16 + n < full → bad_volume_name s ≡ false
-  unfolding bad_volume_name name_ends
-  name-fine n full e f h = rw (← e, ← f, lt-ltb (16 + n) full h)
-
-  pub whole_of : (full : ℕ) → full ≡ full_size s → full < 4294967296 → bad_full_size s ≡ false → Whole s full × (32 ≤ full)
-  unfolding bad_full_size
-  whole_of full e l h =
-      let rest = or-no-r (ltb (full_size s) 32) (ltb (length s) (full_size s) || not (eqb (full_size s % 16) 0)) h in
-      let a : 32 ≤ full_size s = ltb-false (full_size s) 32 (or-no-l (ltb (full_size s) 32) (ltb (length s) (full_size s) || not (eqb (full_size s % 16) 0)) h) in
-      let b : full_size s ≤ length s = ltb-false (length s) (full_size s) (or-no-l (ltb (length s) (full_size s)) (not (eqb (full_size s % 16) 0)) rest) in
-      (record { is = e; inside = omega arith; small = l }, omega arith)
-
 -- ---- the root list
 module _ (s : List ℕ) (test : ℕ → ℕ → ℕ → Verdict) (first full : ℕ) (e : first ≡ first_root s) (f : full ≡ full_size s) where
   pub root_none : first ≡ full → accepted ≡ visit_all s test
@@ -165,22 +102,6 @@ module _ (s : List ℕ) (test : ℕ → ℕ → ℕ → Verdict) (first full : �
 
 pub root-in-full : (s : List ℕ) (first full : ℕ) → Volume s → first ≡ first_root s → full ≡ full_size s → (first ≡ full → ⊥) → first < full
 root-in-full s first full v e f z = omega (arith, root-to s v)
-
-pub not-zero : (n : ℕ) → (n ≡ 0 → ⊥) → not (eqb n 0) ≡ true
-not-zero n h = rw (ne_eqb n 0 h)
-
-pub zero : (n : ℕ) → n ≡ 0 → not (eqb n 0) ≡ false
-zero n h = rw (eq-eqb n 0 h)
-
--- ---- rule 29
-module _ (s : List ℕ) (low full : ℕ) (f : full ≡ full_size s) (e : low ≡ least (λ p. is_reached s p && bad_link s p) full) where
-  pub links-some : low < full → broken 29 low ≡ links s
-  unfolding links
-  links-some h = rw (← f, ← e, lt-ltb low full h)
-
-  pub links-none : full ≤ low → accepted ≡ links s
-  unfolding links
-  links-none h = rw (← f, ← e, le-ltb low full h)
 
 -- the root's list
 pub root-reached : (s : List ℕ) (first full : ℕ) → first ≡ first_root s → full ≡ full_size s → (first ≡ full → ⊥) → Reached s first full 1
@@ -193,7 +114,3 @@ broken-on n p a b e = rw (← e)
 
 pub accepted-on : (a b v : Verdict) → accepted ≡ a → v ≡ b → v ≡ and_then a b
 accepted-on a b v e f = rw (← e) f
-
-pub check-is : (s : List ℕ) (v : Verdict) → v ≡ and_then (volume s) (and_then (walk s) (links s)) → v ≡ check s
-unfolding check
-check-is s v e = e

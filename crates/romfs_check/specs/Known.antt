@@ -1,7 +1,7 @@
 -- What is known of an image at a place of the code.
 use Rattle.std.specs.Prelude.{ℕ, ◌-◌, ◌≤◌, ◌<◌, List}
 use Rattle.romfs_facts.specs.Tested.{Reached}
-use Rattle.romfs_headers.specs.Known.{Whole}
+use Rattle.romfs_headers.specs.Whole.{Whole}
 
 -- the walk comes to a header at p, in a list with its bound and with left lists below it
 pub record Here (s : List ℕ) (full p bound left : ℕ) : Type 0 where

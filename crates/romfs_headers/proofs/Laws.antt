@@ -1,20 +1,14 @@
 -- Laws of the definitions, one for each way that the code takes.
-use Rattle.std.proofs.Common.{◌≡◌, ℕ, ◌+◌, ◌-◌, ◌*◌, ◌%◌, ◌^◌, ◌<◌, ◌≤◌, Bool, true, false, not, ◌&&◌, ◌||◌, T, eqb, ltb, leb, ◌≢◌, List, [], ◌∷◌, length, get_or, sym, ap, ◌∙◌, add-one, arith, ext_get_or, below_none, below_more, ltb-false, lt-ltb, eq-eqb, ne_eqb, le-leb}
+use Rattle.std.proofs.Common.{◌≡◌, ℕ, ◌+◌, ◌-◌, ◌<◌, ◌≤◌, Bool, true, false, ◌||◌, T, eqb, ltb, ◌≢◌, List, [], ◌∷◌, length, get_or, sym, ap, ◌∙◌, arith, ext_get_or, below_none, below_more, lt-ltb, eq-eqb, ne_eqb}
 use native.Mathlib.Decide.{dec_lt, ℕ_discrete}
-use borrow.Author.Tests.{lt-leb}
-use Rattle.lists.specs.Lists.{same_list, zero_at, word, part}
+use Rattle.lists.specs.Lists.{same_list, zero_at, part}
 use Rattle.list_laws.specs.Test.{to-true, to-false, same-eq, same_refl}
 use Rattle.list_laws.specs.Part.{get_or-part, length_part}
 use Rattle.list_laws.specs.Least.{Below, found, none_found, least-le, least-hit}
-use Rattle.romfs_spec.specs.Layout.{full_size, name_length, sum_of_words, next, info, end_of, own, name, is_dots, has_list}
-use Rattle.romfs_spec.specs.Check.{accepted, broken, over_bound, bad_header, bad_next, bad_first, bad_nesting, too_deep, fault}
+use Rattle.romfs_spec.specs.Layout.{full_size, name_length, end_of, name, is_dots}
+use Rattle.romfs_spec.specs.Check.{broken, over_bound, bad_header, fault}
 use Rattle.romfs_facts.specs.Facts.{room, true-false}
-use Rattle.romfs_headers.specs.Known.{Whole}
-
--- ---- sums
-pub sum_more : (s : List ℕ) (p n : ℕ) → sum_of_words s p (n + 1) ≡ (sum_of_words s p n + word s (p + 4 * n)) % 2 ^ 32
-unfolding sum_of_words
-sum_more s p n = rw add-one
+use Rattle.romfs_headers.specs.Whole.{Whole}
 
 -- ---- names
 pub zero-yes : (s : List ℕ) (p : ℕ) → get_or s p 0 ≡ 0 → zero_at s p ≡ true
@@ -50,48 +44,11 @@ module _ (s : List ℕ) (at full i : ℕ) (e : full ≡ full_size s) (b : Below 
   unfolding name_length
   name-none h k = let n : i ≡ full_size s - at = omega arith in n ∙ none_found (λ j. zero_at s (at + j)) (full_size s - at) i (omega arith) (omega arith) b
 
--- ---- rule 26
-pub not-over : (s : List ℕ) (bound p full : ℕ) → over_bound s bound p ≡ false → bound ≤ full → end_of s p ≤ full
-unfolding over_bound
-not-over s bound p full e h = omega (arith, ltb-false bound (end_of s p) e)
-
 -- ---- the fault of a header
-module _ (s : List ℕ) (bound p : ℕ) where
-  pub next-test : (r : Bool) (n e : ℕ) → r ≡ (not (eqb n 0) && (ltb n e || leb bound n)) → n ≡ next s p → e ≡ end_of s p → r ≡ bad_next s bound p
-  unfolding bad_next
-  next-test r n e h f g = rw (← f, ← g) h
-
-  pub first-test : (r : Bool) (n e o : ℕ) → r ≡ (not (eqb (n % 16) 0) || (ltb n e || leb o n)) → n ≡ info s p → e ≡ end_of s p → o ≡ own s bound p → has_list s p ≡ true → r ≡ bad_first s bound p
-  unfolding bad_first
-  first-test r n e o h f g k t = rw (t, ← f, ← g, ← k) h
-
-  pub fault-header : (d : ℕ) → bad_header s bound p ≡ true → fault s bound d p ≡ broken 26 p
-  unfolding fault
-  fault-header d h = rw h
-
-  pub fault-short : (d : ℕ) → bound < p + 32 → fault s bound d p ≡ broken 26 p
-  unfolding bad_header over_bound
-  fault-short d h = let e : ltb bound (end_of s p) ≡ true = lt-ltb bound (end_of s p) (omega (arith, room s p)) in fault-header d (rw e)
-
-  pub fault-next : (d : ℕ) → bad_header s bound p ≡ false → bad_next s bound p ≡ true → fault s bound d p ≡ broken 27 p
-  unfolding fault bad_nesting
-  fault-next d h n = rw (h, n)
-
-  pub fault-first : (d : ℕ) → bad_header s bound p ≡ false → bad_next s bound p ≡ false → bad_first s bound p ≡ true → fault s bound d p ≡ broken 27 p
-  unfolding fault bad_nesting
-  fault-first d h n f = rw (h, n, f)
-
-  pub fault-deep : (d : ℕ) → bad_header s bound p ≡ false → bad_next s bound p ≡ false → bad_first s bound p ≡ false → has_list s p ≡ true → 8 ≤ d → fault s bound d p ≡ broken 28 p
-  unfolding fault bad_nesting too_deep
-  fault-deep d h n f t l = rw (h, n, f, t, le-leb 8 d l)
-
-  pub fault-none : (d : ℕ) → bad_header s bound p ≡ false → bad_next s bound p ≡ false → bad_first s bound p ≡ false → has_list s p ≡ true → d < 8 → fault s bound d p ≡ accepted
-  unfolding fault bad_nesting too_deep
-  fault-none d h n f t l = rw (h, n, f, t, lt-leb 8 d l)
-
-  pub fault-leaf : (d : ℕ) → bad_header s bound p ≡ false → bad_next s bound p ≡ false → has_list s p ≡ false → fault s bound d p ≡ accepted
-  unfolding fault bad_nesting bad_first too_deep
-  fault-leaf d h n t = rw (h, n, t)
+-- 32 bytes do not fit below the bound
+pub fault_short : (s : List ℕ) (bound p d : ℕ) → bound < p + 32 → fault s bound d p ≡ broken 26 p
+unfolding fault bad_header over_bound
+fault_short s bound p d h = let e : ltb bound (end_of s p) ≡ true = lt-ltb bound (end_of s p) (omega (arith, room s p)) in rw e
 
 -- ---- "." and "..", by the first three bytes of the name of a header at p
 module _ (s : List ℕ) (full p : ℕ) (w : Whole s full) (h : p + 32 ≤ full) where

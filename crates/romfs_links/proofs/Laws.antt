@@ -1,5 +1,5 @@
 -- Laws of searches, windows and tours, one for each way that the code takes.
-use Prim.Native.Nat.{ℕ, suc, ◌+◌, ◌*◌, ◌-◌, ◌/◌, ◌≤◌, ◌<◌}
+use Prim.Native.Nat.{ℕ, suc, ◌-◌, ◌≤◌, ◌<◌}
 use mathlib.Core.Path.{◌≡◌, refl, sym, ap, subst, ◌∙◌}
 use mathlib.Core.Logic.{◌≢◌}
 use mathlib.Core.Bool.{Bool, true, false, not, ◌&&◌, ◌||◌}
@@ -8,7 +8,10 @@ use native.Mathlib.Omega.{arith}
 use native.Mathlib.Decide.{ℕ_discrete}
 use borrow.Author.Tests.{eq-eqb, ne_eqb}
 use lib.Dec.{eqb}
-use Rattle.romfs_spec.specs.Layout.{full_size, first_root, type_of_file, next, info, own, is_dots, has_list}
+use Rattle.std.specs.Prelude.{Some, None, cond, leb}
+use Rattle.std.proofs.lemmas.Option.{none-some, cond_some}
+use Rattle.romfs_spec.specs.Layout.{full_size, first_root, type_of_file, next, info, own, is_dots, descends, has_list}
+use Rattle.romfs_headers.specs.Known.{some_unless, first_in}
 use Rattle.romfs_spec.specs.Check.{leads, towards, seek, is_reached, bad_link}
 use Rattle.romfs_facts.specs.Tested.{Reached, root, along, inside, IsReached, Sound}
 use Rattle.lists.specs.Lists.{least}
@@ -16,10 +19,10 @@ use Rattle.list_laws.specs.Least.{Below, found, none_found}
 use Rattle.romfs_facts.specs.Facts.{true-false, both, depth-to, list-descends, list-first}
 use Rattle.romfs_facts.specs.Visit.{Cases, same, later, below, cases}
 use Rattle.romfs_facts.specs.Walked.{has-root, met, sound}
-use Rattle.romfs_facts.specs.Seek.{seek-here, seek-none, seek-on, is-reached, reached-is, is_none, is-seek, towards-reached, towards-further}
-use Rattle.romfs_links.specs.Known.{Walked, At}
+use Rattle.romfs_facts.specs.Seek.{seek-here, seek-none, seek-on, is-reached, reached-is, is_none, is-seek, towards-next, towards-first, towards-leaf, towards_past, leads-some, towards-reached, towards-further}
+use Rattle.romfs_links.specs.Known.{Walked, At, up_to}
 use Rattle.romfs_links.specs.Tour.{links_on, State, Kept, Fine, FineEntry, FineList, FineAll, Tested}
-use Rattle.romfs_links.specs.Facts.{reach-room, sound-next}
+use Rattle.romfs_links.specs.Facts.{reach_room, sound-next}
 
 -- ---- reached headers
 pub reach-start : (s : List ℕ) (first full : ℕ) → first ≡ first_root s → full ≡ full_size s → (first ≡ full → ⊥) → IsReached s first
@@ -38,9 +41,6 @@ pub record Path (s : List ℕ) (full want from p : ℕ) : Type 0 where
   pub enough : full - p ≤ fuel
   pub same : seek s want full from ≡ seek s want fuel p
 
-pub path-all : (s : List ℕ) (full want from : ℕ) → Path s full want from from
-path-all s full want from = record { fuel = full; enough = omega arith; same = refl }
-
 module _ (s : List ℕ) (full : ℕ) (w : Walked s full) where
   module _ (want p q : ℕ) (r : IsReached s p) (e : q ≡ towards s want p) (z : q ≡ 0 → ⊥) where
     pub reach-on : IsReached s q
@@ -51,7 +51,7 @@ module _ (s : List ℕ) (full : ℕ) (w : Walked s full) where
 
     pub path-on : (from : ℕ) → Path s full want from p → (want ≡ p → ⊥) → Path s full want from q
     path-on from h d =
-        let in-full = reach-room s full w p r in
+        let in-full = reach_room s full w p r in
         let some : 0 < h.fuel = omega (arith, h.enough) in
         record {
           fuel = h.fuel - 1;
@@ -61,7 +61,7 @@ module _ (s : List ℕ) (full : ℕ) (w : Walked s full) where
 
   module _ (want from p : ℕ) (r : IsReached s p) (h : Path s full want from p) where
     some-fuel : 0 < h.fuel
-    some-fuel = let in-full = reach-room s full w p r in omega (arith, h.enough)
+    some-fuel = let in-full = reach_room s full w p r in omega (arith, h.enough)
 
     pub path-here : want ≡ p → true ≡ seek s want full from
     path-here e = sym (h.same ∙ seek-here s want h.fuel p some-fuel e)
@@ -104,18 +104,6 @@ module _ (s : List ℕ) (p : ℕ) where
   abbrev to_hard : Bool
   to_hard = eqb (type_of_file s (info s p)) 0
 
-  pub on-hard : type_of_file s p ≡ 0 → true ≡ links_on s p
-  unfolding links_on
-  on-hard k = rw (eq-eqb (type_of_file s p) 0 k)
-
-  pub on-other : (type_of_file s p ≡ 0 → ⊥) → (type_of_file s p ≡ 1 → ⊥) → false ≡ links_on s p
-  unfolding links_on
-  on-other k l = rw (ne_eqb (type_of_file s p) 0 k, ne_eqb (type_of_file s p) 1 l)
-
-  pub on-dots : (type_of_file s p ≡ 0 → ⊥) → type_of_file s p ≡ 1 → is_dots s p ≡ links_on s p
-  unfolding links_on
-  on-dots k l = rw (ne_eqb (type_of_file s p) 0 k, eq-eqb (type_of_file s p) 1 l)
-
   pub link-none : links_on s p ≡ false → bad_link s p ≡ false
   unfolding links_on bad_link
   link-none e = bad-not-on hard soft (is_reached s (info s p)) to_hard e
@@ -133,19 +121,58 @@ module _ (s : List ℕ) (p : ℕ) where
     unfolding bad_link
     link-hard k r = let r₂ = rw e at r in rw (e, r₂, eq-eqb (type_of_file s p) 0 k) (sym (bad-hard soft to_hard))
 
--- what a test of an offset says of the offset that it is
-pub leads-test : (m want : ℕ) {r t : Bool} {n : ℕ} → r ≡ leads n want → n ≡ m → r ≡ t → leads m want ≡ t
-leads-test m want h e k = rw (← e, ← h) k
+-- ---- where a path goes on
+module _ (s : List ℕ) (want p : ℕ) where
+  -- an offset that leads on, as a test
+  up-to : (n : ℕ) → up_to want (some_unless 0 n) ≡ cond (leads n want) (Some n) None
+  unfolding leads
+  up-to n = go (eqb n 0)
+    where
+      go : (b : Bool) → up_to want (cond b None (Some n)) ≡ cond (not b && leb n want) (Some n) None
+      go true = refl
+      go false = refl
+
+  pub path_next : {x : ℕ} → Some x ≡ up_to want (some_unless 0 (next s p)) → Some x ≡ some_unless 0 (towards s want p)
+  path_next {x} e =
+      let h = cond_some (leads (next s p) want) (next s p) x (sym (e ∙ up-to (next s p))) in
+      rw (towards-next s want p h.0, ne_eqb (next s p) 0 (leads-some (next s p) want h.0), h.1)
+
+  past-next : None ≡ up_to want (some_unless 0 (next s p)) → leads (next s p) want ≡ false
+  past-next e = go (leads (next s p) want) refl (e ∙ up-to (next s p))
+    where
+      go : (b : Bool) → leads (next s p) want ≡ b → None ≡ cond b (Some (next s p)) None → leads (next s p) want ≡ false
+      go true f h = absurd (none-some (next s p) h)
+      go false f h = f
+
+  leads-empty : eqb (info s p) 0 ≡ true → leads (info s p) want ≡ false
+  unfolding leads
+  leads-empty h = rw h
+
+  leads-some-info : eqb (info s p) 0 ≡ false → leads (info s p) want ≡ leb (info s p) want
+  unfolding leads
+  leads-some-info h = rw h
+
+  pub path_first : None ≡ up_to want (some_unless 0 (next s p)) → up_to want (first_in s p) ≡ some_unless 0 (towards s want p)
+  unfolding has_list
+  path_first e = go (descends s p) refl
+    where
+      go : (d : Bool) → descends s p ≡ d → up_to want (cond (d && not (eqb (info s p) 0)) (Some (info s p)) None) ≡ some_unless 0 (towards s want p)
+      go false d = rw (towards-leaf s want p (past-next e) d)
+      go true d = down (eqb (info s p) 0) refl
+        where
+          down : (b : Bool) → eqb (info s p) 0 ≡ b → up_to want (cond (not b) (Some (info s p)) None) ≡ some_unless 0 (towards s want p)
+          down true h = rw (towards_past s want p (past-next e) d (leads-empty h))
+          down false h = first (leb (info s p) want) refl
+            where
+              leads-is : leads (info s p) want ≡ leb (info s p) want
+              leads-is = leads-some-info h
+
+              first : (l : Bool) → leb (info s p) want ≡ l → cond l (Some (info s p)) None ≡ some_unless 0 (towards s want p)
+              first true l = rw (towards-first s want p (past-next e) d (leads-is ∙ l), h)
+              first false l = rw (towards_past s want p (past-next e) d (leads-is ∙ l))
 
 -- ---- a tour
--- what is known where a tour stands
 module _ (s : List ℕ) (full p bound left : ℕ) (a : At s full p bound left) where
-  pub at-reached : IsReached s p
-  at-reached = record { bound = bound; depth = 8 - left; reached = a.reached }
-
-  pub at_room : p + 32 ≤ full
-  at_room = reach-room s full a.walked p at-reached
-
   at-sound : Sound s p bound (8 - left)
   at-sound = sound s a.walked.volume a.walked.walked a.reached
 
@@ -168,13 +195,6 @@ module _ (s : List ℕ) (full lo : ℕ) (fill : Bool) where
   -- what is fine stays so
   pub fine-kept : (low far low₂ far₂ q : ℕ) → Kept low far low₂ far₂ → Fine s full lo fill low far q → Fine s full lo fill low₂ far₂ q
   fine-kept low far low₂ far₂ q k h f b l m = let x = h f b (omega arith) m in (omega arith, x.1)
-
-  pub fine-filled : (low far q : ℕ) → fill ≡ true → Fine s full lo fill low far q
-  fine-filled low far q e f = absurd (true-false e f)
-
-  -- an entry without a list
-  pub fine-leaf : (low far p bound left : ℕ) → Fine s full lo fill low far p → has_list s p ≡ false → FineEntry s full lo fill low far p bound left
-  fine-leaf low far p bound left h e = (h, λ t. absurd (true-false t e))
 
   -- an entry with one
   pub fine-below : (low far p bound left : ℕ) → At s full p bound left → Fine s full lo fill low far p → (f o : ℕ) → f ≡ info s p → o ≡ own s bound p → FineList s full lo fill low far f o (left - 1) → FineEntry s full lo fill low far p bound left
@@ -222,9 +242,6 @@ module _ (s : List ℕ) (full lo low low₂ far : ℕ) (w : Walked s full) (t : 
   -- all that is left leads to far or behind it
   pub left_behind : (q : ℕ) → IsReached s q → bad_link s q ≡ true → q < low₂ → (far ≤ info s q) × (info s q < full)
   left_behind q r b l = h q r refl b l (t q r b (omega arith))
-
-  pub tested-on : (to : ℕ) → to ≡ far / 16 * 16 → Tested s to low₂
-  tested-on to e q r b l = omega (arith, left_behind q r b l)
 
   -- where nothing is left, low is the lowest
   module _ (none : far ≡ full) where

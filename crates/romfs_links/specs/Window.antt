@@ -38,9 +38,9 @@ pub record Window (s : List ℕ) (lo : ℕ) (bits : List ℕ) : Type 0 where
 
 -- ---- an offset with a bit
 module _ (lo p : ℕ) (h : in_window lo p ≡ true) where
-  pub window-from : lo ≤ p
+  pub window_from : lo ≤ p
   unfolding in_window
-  window-from = leb-true lo p (and-yes-l (leb lo p) (ltb p (lo + 1048576) && eqb ((p - lo) % 16) 0) h)
+  window_from = leb-true lo p (and-yes-l (leb lo p) (ltb p (lo + 1048576) && eqb ((p - lo) % 16) 0) h)
 
   rest : (ltb p (lo + 1048576) && eqb ((p - lo) % 16) 0) ≡ true
   unfolding in_window
@@ -52,22 +52,12 @@ module _ (lo p : ℕ) (h : in_window lo p ≡ true) where
   window-16 : (p - lo) % 16 ≡ 0
   window-16 = eqb-true ((p - lo) % 16) 0 (and-yes-r (ltb p (lo + 1048576)) (eqb ((p - lo) % 16) 0) rest)
 
-  pub window-byte : number_of lo p / 8 < 8192
-  window-byte = omega (arith, window-from, window-to)
-
--- ---- the test of a bit
-module _ (bits : List ℕ) (lo p : ℕ) where
-  pub no-bit : in_window lo p ≡ false → false ≡ is_marked bits lo p
-  unfolding is_marked
-  no-bit h = rw h
-
-  pub bit_test : (x : ℕ) → in_window lo p ≡ true → x ≡ bit_of (get_or bits (number_of lo p / 8) 0) (number_of lo p % 8) → eqb x 1 ≡ is_marked bits lo p
-  unfolding is_marked
-  bit_test x h e = rw (h, e)
+  pub window_byte : number_of lo p / 8 < 8192
+  window_byte = omega (arith, window_from, window-to)
 
 -- two offsets with the same bit are one
 same_bit : (lo p q : ℕ) → in_window lo p ≡ true → in_window lo q ≡ true → number_of lo p ≡ number_of lo q → p ≡ q
-same_bit lo p q h k e = omega (arith, window-from lo p h, window-from lo q k, window-16 lo p h, window-16 lo q k)
+same_bit lo p q h k e = omega (arith, window_from lo p h, window_from lo q k, window-16 lo p h, window-16 lo q k)
 
 -- ---- no bit is set
 zeros : (n i : ℕ) → ◌≡◌ {A = ℕ} (get_or (replicate n 0) i 0) 0
@@ -99,7 +89,7 @@ module _ (s : List ℕ) (lo : ℕ) (bits : List ℕ) (w : Window s lo bits) (p :
   others q h d =
       elim (ℕ_discrete (number_of lo q / 8) (number_of lo p / 8)) [
         | yes e ↦
-            rw (e, get_or-set_same {A = ℕ} bits (number_of lo p / 8) (with_bit (byte_of p) (number_of lo p % 8) 1) 0 (omega (arith, w.long, window-byte lo p h)))
+            rw (e, get_or-set_same {A = ℕ} bits (number_of lo p / 8) (with_bit (byte_of p) (number_of lo p % 8) 1) 0 (omega (arith, w.long, window_byte lo p h)))
             (bit-other (byte_of p) (number_of lo p % 8) (number_of lo q % 8) 1 (omega arith) (omega arith))
         | no e ↦ rw (get_or-set_other bits (number_of lo p / 8) (number_of lo q / 8) (with_bit (byte_of p) (number_of lo p % 8) 1) 0 e)
       ]

@@ -1,83 +1,83 @@
 // Rule 29 at one header.
-ghost use Rattle.std.specs.Prelude.{◌≡◌, true, false};
+ghost use Rattle.std.specs.Prelude.{◌≡◌, ◌==◌, true, false};
+ghost use Rattle.romfs_spec.specs.Layout.{type_of_file};
 ghost use Rattle.romfs_spec.specs.Check.{is_reached, bad_link};
 ghost use Rattle.romfs_facts.specs.Tested.{IsReached};
-ghost use Rattle.romfs_links.specs.Known.{Walked};
 ghost use Rattle.romfs_links.specs.Window.{Window};
 ghost use Rattle.romfs_links.specs.Tour.{links_on, State, Kept, Fine};
 
-use crate::seek::is_reached;
+use crate::marks::{Marks, WINDOW};
 use crate::tour::Found;
-use crate::window::{WINDOW, is_marked};
+use crate::tree::Tree;
+use romfs_headers::{FileType, Header};
 
 // Whether a header leads on by its spec.info: a hard link, or a directory named "." or "..".
-fn links_on(image: &[u8], full: usize, p: usize) -> bool
-    requires { Walked image.now full × IsReached image.now p }
-    ensures { result ≡ links_on image.now p }
+#[tactic(auto, unfolding(crate::specs::Tour::links_on))]
+fn links_on(header: Header<'_>) -> bool
+    ensures { result ≡ links_on header.entry.image.bytes.now header.entry.at }
 {
-    let k = romfs_headers::file_type_of(image, p);
-    if k == 0 {
-        return true;
+    match header.file_type() {
+        FileType::HardLink => true,
+        FileType::Directory => header.is_dots(),
+        _ => false,
     }
-    if k != 1 {
-        return false;
-    }
-    romfs_headers::is_dots(image, full, p)
 }
 
-// Whether a header is reached. What is not marked is sought from the root: in a tour the first bad link's target alone.
-fn reached_in(image: &[u8], full: usize, want: usize, lo: usize, bits: &[u8]) -> bool
-    requires { Walked image.now full × Window image.now lo bits.now }
-    ensures { result ≡ is_reached image.now want }
+fn is_hard_link(header: Header<'_>) -> bool
+    ensures { result ≡ (type_of_file header.entry.image.bytes.now header.entry.at == 0) }
 {
-    if is_marked(lo, want, bits) {
-        return true;
-    }
-    is_reached(image, full, want)
+    header.file_type() == FileType::HardLink
 }
 
-// Whether a header that leads on breaks rule 29.
-fn bad_link(image: &[u8], full: usize, p: usize, lo: usize, bits: &[u8]) -> bool
-    requires { Walked image.now full × IsReached image.now p × Window image.now lo bits.now × (links_on image.now p ≡ true) }
-    ensures { result ≡ bad_link image.now p }
-{
-    let to = romfs_headers::info_of(image, p);
-    if !reached_in(image, full, to, lo, bits) {
-        return true;
+impl<'a> Tree<'a> {
+    // Whether a header is reached. What is not marked is sought from the root: in a tour the first bad link's target alone.
+    fn is_reached_in(self, want: usize, marks: &Marks) -> bool
+        requires { Window self.image.bytes.now marks.now.lo marks.now.bits }
+        ensures { result ≡ is_reached self.entry.image.bytes.now want }
+    {
+        marks.is_marked(want) || self.is_reached(want)
     }
-    if romfs_headers::file_type_of(image, p) != 0 {
-        return false;
-    }
-    romfs_headers::file_type_of(image, to) == 0
-}
 
-// Tests the link at a header if it leads into the window, and notes where it leads if that is behind it.
-pub fn test_link(image: &[u8], full: usize, p: usize, lo: usize, bits: &[u8], found: Found) -> Found
-    requires { Walked image.now full × IsReached image.now p × Window image.now lo bits.now × State image.now full lo found.low found.far }
-    ensures { State image.now full lo result.low result.far × Kept found.low found.far result.low result.far × Fine image.now full lo false result.low result.far p }
-{
-    let low = found.low;
-    let far = found.far;
-    if low <= p {
-        return Found { low, far };
-    }
-    if !links_on(image, full, p) {
-        return Found { low, far };
-    }
-    let to = romfs_headers::info_of(image, p);
-    if to < lo {
-        return Found { low, far };
-    }
-    if to < full {
-        if lo + WINDOW <= to {
-            if to < far {
-                return Found { low, far: to };
-            }
-            return Found { low, far };
+    // Whether a header that leads on breaks rule 29.
+    fn has_bad_link(self, p: usize, marks: &Marks) -> bool
+        requires { IsReached self.image.bytes.now p × Window self.image.bytes.now marks.now.lo marks.now.bits × (links_on self.image.bytes.now p ≡ true) }
+        ensures { result ≡ bad_link self.entry.image.bytes.now p }
+    {
+        let header = self.header(p);
+        let to = header.info();
+        if !self.is_reached_in(to, marks) {
+            return true;
         }
+        if !is_hard_link(header) {
+            return false;
+        }
+        is_hard_link(self.header(to))
     }
-    if bad_link(image, full, p, lo, bits) {
-        return Found { low: p, far };
+
+    // Tests the link at a header if it leads into the window, and notes where it leads if that is behind it.
+    pub fn test_link(self, p: usize, marks: &Marks, found: Found) -> Found
+        requires { IsReached self.image.bytes.now p × Window self.image.bytes.now marks.now.lo marks.now.bits × State self.image.bytes.now self.image.full marks.now.lo found.low found.far }
+        ensures state { State self.entry.image.bytes.now self.entry.image.full marks.now.lo result.low result.far }
+        ensures kept { Kept found.low found.far result.low result.far }
+        ensures fine { Fine self.entry.image.bytes.now self.entry.image.full marks.now.lo false result.low result.far p }
+    {
+        let header = self.header(p);
+        if found.low <= p || !links_on(header) {
+            return found;
+        }
+        let to = header.info();
+        if to < marks.lo {
+            return found;
+        }
+        if to < self.image.full && marks.lo + WINDOW <= to {
+            return Found {
+                far: to.min(found.far),
+                ..found
+            };
+        }
+        if self.has_bad_link(p, marks) {
+            return Found { low: p, ..found };
+        }
+        found
     }
-    Found { low, far }
 }

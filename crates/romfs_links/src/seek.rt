@@ -1,65 +1,57 @@
 // One header, sought along the path to it.
-ghost use Rattle.std.specs.Prelude.{◌≡◌, ◌+◌, ◌≤◌};
-ghost use Rattle.romfs_spec.specs.Check.{leads, towards, seek, is_reached};
+ghost use Rattle.std.specs.Prelude.{◌≡◌};
+ghost use Rattle.romfs_spec.specs.Check.{towards, seek, is_reached};
 ghost use Rattle.romfs_facts.specs.Tested.{IsReached};
-ghost use Rattle.romfs_headers.specs.Known.{Whole};
-ghost use Rattle.romfs_links.specs.Known.{Walked};
+ghost use Rattle.romfs_headers.specs.Known.{some_unless};
+ghost use Rattle.romfs_links.specs.Known.{up_to};
 
-// Whether an offset is a header's at or before the wanted one.
-fn leads_to(to: usize, want: usize) -> bool
-    ensures { result ≡ leads to want }
+use crate::tree::Tree;
+use romfs_headers::Header;
+
+// An offset that is at or before the wanted one.
+fn up_to(to: Option<usize>, want: usize) -> Option<usize>
+    ensures { result ≡ up_to want to }
 {
-    if to == 0 {
-        return false;
+    match to {
+        Some(to) if to <= want => Some(to),
+        _ => None,
     }
-    to <= want
 }
 
-// Where the path to the wanted header goes on, or 0.
-fn step_towards(image: &[u8], full: usize, want: usize, p: usize) -> usize
-    requires { Whole image.now full × (p + 32 ≤ full) }
-    ensures { result ≡ towards image.now want p }
+// Where the path from a header to the wanted one goes on.
+fn step_towards(header: Header<'_>, want: usize) -> Option<usize>
+    ensures { result ≡ some_unless 0 (towards header.entry.image.bytes.now want header.entry.at) }
 {
-    let next = romfs_headers::next_of(image, p);
-    if leads_to(next, want) {
-        return next;
+    match up_to(header.next(), want) {
+        Some(next) => Some(next),
+        None => up_to(header.first(), want),
     }
-    if !romfs_headers::goes_down(image, full, p) {
-        return 0;
-    }
-    let first = romfs_headers::info_of(image, p);
-    if leads_to(first, want) {
-        return first;
-    }
-    0
 }
 
-// Whether the path from a header leads to the wanted one.
-fn seek_from(image: &[u8], full: usize, from: usize, want: usize) -> bool
-    requires { Walked image.now full × IsReached image.now from }
-    ensures { result ≡ seek image.now want full from }
-{
-    let mut p = from;
-    loop {
-        if want == p {
-            return true;
+impl<'a> Tree<'a> {
+    // Whether the path from a header leads to the wanted one.
+    fn seek_from(self, from: usize, want: usize) -> bool
+        requires { IsReached self.image.bytes.now from }
+        ensures { result ≡ seek self.entry.image.bytes.now want self.entry.image.full from }
+    {
+        let mut p = from;
+        // Along next and first headers, by what the image holds: there is no count to go by.
+        while p != want {
+            let Some(q) = step_towards(self.header(p), want) else {
+                return false;
+            };
+            p = q;
         }
-        let q = step_towards(image, full, want, p);
-        if q == 0 {
-            return false;
-        }
-        p = q;
+        true
     }
-}
 
-// Whether a header is reached, by going down one path.
-pub fn is_reached(image: &[u8], full: usize, want: usize) -> bool
-    requires { Walked image.now full }
-    ensures { result ≡ is_reached image.now want }
-{
-    let first = romfs_headers::first_root(image, full);
-    if first == full {
-        return false;
+    // Whether a header is reached, by going down one path.
+    pub fn is_reached(self, want: usize) -> bool
+        ensures { result ≡ is_reached self.entry.image.bytes.now want }
+    {
+        match self.first_root() {
+            Some(first) => self.seek_from(first, want),
+            None => false,
+        }
     }
-    seek_from(image, full, first, want)
 }

@@ -1,122 +1,110 @@
 // A tour of all reached headers: it marks those of a window, or tests the links that lead into it.
+ghost use Rattle.std.specs.Prelude.{◌≡◌};
 ghost use Rattle.romfs_facts.specs.Tested.{IsReached};
-ghost use Rattle.romfs_links.specs.Known.{Walked, At};
+ghost use Rattle.romfs_links.specs.Known.{At};
 ghost use Rattle.romfs_links.specs.Window.{Window};
 ghost use Rattle.romfs_links.specs.Tour.{State, Kept, Fine, FineEntry, FineList, FineAll};
 
-use crate::link::test_link;
-use crate::window::mark;
+use crate::marks::Marks;
+use crate::tree::Tree;
+use romfs_headers::List;
 
-// The lowest bad link, and the least offset behind the window that a link below it leads to; the full size for none.
+// The lowest bad link, and the least offset behind the window that a link below it leads to. The full size stands for
+// none, so that what is found later is the smaller of two numbers.
 #[derive(Clone, Copy)]
 pub struct Found {
     pub low: usize,
     pub far: usize,
 }
 
-fn visit(
-    image: &[u8],
-    full: usize,
-    p: usize,
-    fill: bool,
-    lo: usize,
-    bits: &mut [u8],
-    found: Found,
-) -> Found
-    requires { Walked image.now full × IsReached image.now p × Window image.now lo bits.old × State image.now full lo found.low found.far }
-    ensures { Window image.now lo bits.new × State image.now full lo result.low result.far × Kept found.low found.far result.low result.far × Fine image.now full lo fill result.low result.far p }
-{
-    if fill {
-        mark(lo, p, bits);
-        return found;
-    }
-    test_link(image, full, p, lo, bits, found)
-}
-
-// The entries of a list, from a header on.
-#[cycle(tour_entry_tour_list)]
-fn tour_list(
-    image: &[u8],
-    full: usize,
-    at: usize,
-    bound: usize,
-    left: usize,
-    fill: bool,
-    lo: usize,
-    bits: &mut [u8],
-    found: Found,
-) -> Found
-    requires { At image.now full at bound left × Window image.now lo bits.old × State image.now full lo found.low found.far }
-    ensures { Window image.now lo bits.new × State image.now full lo result.low result.far × Kept found.low found.far result.low result.far × FineList image.now full lo fill result.low result.far at bound left }
-{
-    let mut p = at;
-    let mut low = found.low;
-    let mut far = found.far;
-    loop {
-        let here = tour_entry(
-            image,
-            full,
-            p,
-            bound,
-            left,
-            fill,
-            lo,
-            bits,
-            Found { low, far },
-        );
-        let next = romfs_headers::next_of(image, p);
-        if next == 0 {
-            return here;
+impl<'a> Tree<'a> {
+    fn visit(self, p: usize, fill: bool, marks: &mut Marks, found: Found) -> Found
+        requires { IsReached self.image.bytes.now p × Window self.image.bytes.now marks.old.lo marks.old.bits × State self.image.bytes.now self.image.full marks.old.lo found.low found.far }
+        ensures lo { marks.new.lo ≡ marks.old.lo }
+        ensures window { Window self.entry.image.bytes.now marks.old.lo marks.new.bits }
+        ensures state { State self.entry.image.bytes.now self.entry.image.full marks.old.lo result.low result.far }
+        ensures kept { Kept found.low found.far result.low result.far }
+        ensures fine { Fine self.entry.image.bytes.now self.entry.image.full marks.old.lo fill result.low result.far p }
+    {
+        if fill {
+            marks.mark(p);
+            return found;
         }
-        low = here.low;
-        far = here.far;
-        p = next;
+        self.test_link(p, marks, found)
     }
-}
 
-// An entry, then its list.
-#[cycle(tour_entry_tour_list)]
-fn tour_entry(
-    image: &[u8],
-    full: usize,
-    p: usize,
-    bound: usize,
-    left: usize,
-    fill: bool,
-    lo: usize,
-    bits: &mut [u8],
-    found: Found,
-) -> Found
-    requires { At image.now full p bound left × Window image.now lo bits.old × State image.now full lo found.low found.far }
-    ensures { Window image.now lo bits.new × State image.now full lo result.low result.far × Kept found.low found.far result.low result.far × FineEntry image.now full lo fill result.low result.far p bound left }
-{
-    let here = visit(image, full, p, fill, lo, bits, found);
-    if !romfs_headers::goes_down(image, full, p) {
-        return here;
+    // The entries of a list.
+    #[cycle(tour_entry_tour_list)]
+    fn tour_list(
+        self,
+        list: List,
+        left: usize,
+        fill: bool,
+        marks: &mut Marks,
+        found: Found,
+    ) -> Found
+        requires { At self.image.bytes.now self.image.full list.first list.bound left × Window self.image.bytes.now marks.old.lo marks.old.bits × State self.image.bytes.now self.image.full marks.old.lo found.low found.far }
+        ensures lo { marks.new.lo ≡ marks.old.lo }
+        ensures window { Window self.entry.image.bytes.now marks.old.lo marks.new.bits }
+        ensures state { State self.entry.image.bytes.now self.entry.image.full marks.old.lo result.low result.far }
+        ensures kept { Kept found.low found.far result.low result.far }
+        ensures fine { FineList self.entry.image.bytes.now self.entry.image.full marks.old.lo fill result.low result.far list.first list.bound left }
+    {
+        let mut p = list.first;
+        let mut here = found;
+        // Along next, by what the image holds: there is no count to go by.
+        loop {
+            here = self.tour_entry(p, list.bound, left, fill, marks, here);
+            let Some(next) = self.header(p).next() else {
+                return here;
+            };
+            p = next;
+        }
     }
-    let first = romfs_headers::info_of(image, p);
-    if first == 0 {
-        return here;
-    }
-    let own = romfs_headers::own_bound(romfs_headers::next_of(image, p), bound);
-    tour_list(image, full, first, own, left - 1, fill, lo, bits, here)
-}
 
-// The whole image.
-pub fn tour_all(
-    image: &[u8],
-    full: usize,
-    fill: bool,
-    lo: usize,
-    bits: &mut [u8],
-    found: Found,
-) -> Found
-    requires { Walked image.now full × Window image.now lo bits.old × State image.now full lo found.low found.far }
-    ensures { Window image.now lo bits.new × State image.now full lo result.low result.far × Kept found.low found.far result.low result.far × FineAll image.now full lo fill result.low result.far }
-{
-    let first = romfs_headers::first_root(image, full);
-    if first == full {
-        return found;
+    // An entry, then its list.
+    #[cycle(tour_entry_tour_list)]
+    fn tour_entry(
+        self,
+        p: usize,
+        bound: usize,
+        left: usize,
+        fill: bool,
+        marks: &mut Marks,
+        found: Found,
+    ) -> Found
+        requires { At self.image.bytes.now self.image.full p bound left × Window self.image.bytes.now marks.old.lo marks.old.bits × State self.image.bytes.now self.image.full marks.old.lo found.low found.far }
+        ensures lo { marks.new.lo ≡ marks.old.lo }
+        ensures window { Window self.entry.image.bytes.now marks.old.lo marks.new.bits }
+        ensures state { State self.entry.image.bytes.now self.entry.image.full marks.old.lo result.low result.far }
+        ensures kept { Kept found.low found.far result.low result.far }
+        ensures fine { FineEntry self.entry.image.bytes.now self.entry.image.full marks.old.lo fill result.low result.far p bound left }
+    {
+        let here = self.visit(p, fill, marks, found);
+        match self.header(p).list(bound) {
+            Some(list) => self.tour_list(list, left - 1, fill, marks, here),
+            None => here,
+        }
     }
-    tour_list(image, full, first, full, 7, fill, lo, bits, found)
+
+    // The whole image.
+    pub fn tour_all(self, fill: bool, marks: &mut Marks, found: Found) -> Found
+        requires { Window self.image.bytes.now marks.old.lo marks.old.bits × State self.image.bytes.now self.image.full marks.old.lo found.low found.far }
+        ensures lo { marks.new.lo ≡ marks.old.lo }
+        ensures window { Window self.entry.image.bytes.now marks.old.lo marks.new.bits }
+        ensures state { State self.entry.image.bytes.now self.entry.image.full marks.old.lo result.low result.far }
+        ensures kept { Kept found.low found.far result.low result.far }
+        ensures fine { FineAll self.entry.image.bytes.now self.entry.image.full marks.old.lo fill result.low result.far }
+    {
+        match self.first_root() {
+            Some(first) => {
+                let list = List {
+                    first,
+                    bound: self.image.full,
+                };
+                self.tour_list(list, 7, fill, marks, found)
+            }
+            None => found,
+        }
+    }
 }

@@ -1,4 +1,3 @@
-pub mod Put
 pub mod Same
 pub mod Copy
 pub mod Masks

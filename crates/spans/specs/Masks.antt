@@ -1,5 +1,5 @@
 -- One bit set and cleared by a mask.
-use Rattle.std.specs.Prelude.{◌≡◌, ℕ, zero, suc, ◌/◌, ◌%◌, ◌^◌, ◌-◌, ◌<◌}
+use Rattle.std.specs.Prelude.{◌≡◌, ℕ, zero, suc, ◌/◌, ◌%◌, ◌^◌, ◌-◌, ◌*◌, ◌<◌}
 use Rattle.std.proofs.Common.{◌∙◌, mod-eq_of_lt, le_of_suc-le-suc, arith, pow_pos}
 use Rattle.std.proofs.Math.Nat.{pow-succ'}
 use Rattle.std.specs.Int.Bits.{bit_or, bit_and, or_step, or_zero_r, and_step}
@@ -28,3 +28,10 @@ and-with n (suc k) (suc m) l b =
     let half : (2 ^ suc m - 1 - 2 ^ suc k) / 2 ≡ 2 ^ m - 1 - 2 ^ k = omega (arith, pow-succ' 2 m, pow-succ' 2 k) in
     and_step n (2 ^ suc m - 1 - 2 ^ suc k)
     ∙ rw (half, and-with (n / 2) k m (omega arith) (omega (arith, pow-succ' 2 m))) (omega (arith, pow-succ' 2 m, pow-succ' 2 k))
+
+-- the same of a byte and the mask that code has
+pub or_one : (n k : ℕ) → k < 8 → bit_or n (1 * 2 ^ k % 256) ≡ with_bit n k 1
+or_one n k h = let small : 1 * 2 ^ k % 256 ≡ 2 ^ k = omega (arith, pow-lt {j = 8} h) in rw small (or-with n k)
+
+pub and_zero : (n k : ℕ) → k < 8 → n < 256 → bit_and n (255 - 1 * 2 ^ k % 256) ≡ with_bit n k 0
+and_zero n k h b = let small : 1 * 2 ^ k % 256 ≡ 2 ^ k = omega (arith, pow-lt {j = 8} h) in rw small (and-with n k 8 h b)

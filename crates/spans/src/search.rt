@@ -2,16 +2,15 @@
 ghost use Rattle.std.specs.Prelude.{◌≡◌, length};
 ghost use Rattle.lists.specs.Lists.{zeros, same_list, first_zero};
 
-// The index of the first zero byte, or the length.
+// The index of the first zero byte, or the length: so the length of a name, as the rules have it, and no Option.
+#[tactic(auto, using(list_laws::specs::Least::none_found), unfolding(lists::specs::Lists::zero_at, lists::specs::Lists::first_zero))]
 pub fn first_zero(p: &[u8]) -> usize
     ensures { result ≡ first_zero p.now }
 {
-    let mut i = 0;
-    while i < p.len() {
+    for i in 0..p.len() {
         if p[i] == 0 {
             return i;
         }
-        i += 1;
     }
     p.len()
 }
@@ -20,17 +19,7 @@ pub fn first_zero(p: &[u8]) -> usize
 pub fn same(a: &[u8], b: &[u8]) -> bool
     ensures { result ≡ same_list a.now b.now }
 {
-    if a.len() != b.len() {
-        return false;
-    }
-    let mut i = 0;
-    while i < a.len() {
-        if a[i] != b[i] {
-            return false;
-        }
-        i += 1;
-    }
-    true
+    a == b
 }
 
 // The same of spans of one length: no byte is left out, so that many are compared at a time.
@@ -38,45 +27,42 @@ fn same_all(a: &[u8], b: &[u8]) -> bool
     requires { length a.now ≡ length b.now }
     ensures { result ≡ same_list a.now b.now }
 {
-    let mut differ = 0u8;
-    let mut i = 0;
-    while i < a.len() {
+    let mut same = true;
+    for i in 0..a.len() {
         if a[i] != b[i] {
-            differ = 1;
+            same = false;
         }
-        i += 1;
     }
-    differ == 0
+    same
 }
 
-// The same of long spans, by 512 bytes: a count that the compiler knows.
+// The same of long spans, by 512 bytes: a count that the compiler knows (`a == b` is slower here).
 pub fn same_long(a: &[u8], b: &[u8]) -> bool
     requires { length a.now ≡ length b.now }
     ensures { result ≡ same_list a.now b.now }
 {
     let n = a.len();
-    let mut i = 0;
-    while 512 <= n - i {
-        let e = i + 512;
-        if !same_all(&a[i..e], &b[i..e]) {
+    for k in 0..n / 512 {
+        let s = 512 * k;
+        let e = s + 512;
+        if !same_all(&a[s..e], &b[s..e]) {
             return false;
         }
-        i = e;
     }
-    same_all(&a[i..n], &b[i..n])
+    let s = n - n % 512;
+    same_all(&a[s..n], &b[s..n])
 }
 
-// Whether every byte is zero; no byte is left out, so that many are tested at a time.
+// Whether every byte is zero; no byte is left out, so that many are tested at a time (`iter().all` stops at the first, and is slower by far).
+#[tactic(auto, using(std::proofs::lemmas::List::Folds::list_all_more))]
 pub fn all_zero(p: &[u8]) -> bool
     ensures { result ≡ same_list p.now (zeros (length p.now)) }
 {
-    let mut differ = 0u8;
-    let mut i = 0;
-    while i < p.len() {
-        if p[i] != 0 {
-            differ = 1;
+    let mut zero = true;
+    for &b in p {
+        if b != 0 {
+            zero = false;
         }
-        i += 1;
     }
-    differ == 0
+    zero
 }

@@ -1,7 +1,7 @@
 // Big-endian 32-bit words.
 ghost use Rattle.std.specs.Prelude.{◌≡◌, ◌+◌, ◌*◌, ◌≤◌, length};
 ghost use Rattle.lists.specs.Lists.{word_of, word, bytes4, with_part, least};
-ghost use Rattle.spans.specs.Alike.{same_four, word_is, word_same, word_differs};
+ghost use Rattle.spans.specs.Alike.{word_is, word_same, word_differs};
 
 use crate::search::same_long;
 
@@ -9,73 +9,57 @@ use crate::search::same_long;
 pub fn word_of(a: u8, b: u8, c: u8, d: u8) -> u32
     ensures { result ≡ word_of a b c d }
 {
-    (((a as u32) * 256 + b as u32) * 256 + c as u32) * 256 + d as u32
+    u32::from_be_bytes([a, b, c, d])
 }
 
 // The word at index `at`.
+#[tactic(auto, unfolding(lists::specs::Lists::word))]
 pub fn be32(p: &[u8], at: usize) -> u32
     requires { at + 4 ≤ length p.now }
     ensures { result ≡ word p.now at }
 {
-    word_of(p[at], p[at + 1], p[at + 2], p[at + 3])
+    u32::from_be_bytes([p[at], p[at + 1], p[at + 2], p[at + 3]])
 }
 
 // Writes the word v at index `at`.
+#[tactic(auto, unfolding(lists::specs::Lists::with_part))]
 pub fn put32(p: &mut [u8], at: usize, v: u32)
     requires { at + 4 ≤ length p.old }
     ensures { p.new ≡ with_part at 4 (bytes4 v) p.old }
 {
-    p[at] = (v / 256 / 256 / 256) as u8;
-    p[at + 1] = (v / 256 / 256 % 256) as u8;
-    p[at + 2] = (v / 256 % 256) as u8;
-    p[at + 3] = (v % 256) as u8;
-}
-
-// Whether four bytes are the same as four others.
-fn four_same(a: u8, b: u8, c: u8, d: u8, e: u8, f: u8, g: u8, h: u8) -> bool
-    ensures { result ≡ same_four a b c d e f g h }
-{
-    word_of(a, b, c, d) == word_of(e, f, g, h)
+    p[at..at + 4].copy_from_slice(&v.to_be_bytes());
 }
 
 // Whether each byte of word k is v.
+#[tactic(auto, using(crate::specs::Alike::four_same), unfolding(crate::specs::Alike::word_is))]
 pub fn word_is(p: &[u8], k: usize, v: u8) -> bool
     requires { 4 * k + 4 ≤ length p.now }
     ensures { result ≡ word_is p.now k v }
 {
     let at = 4 * k;
-    four_same(p[at], p[at + 1], p[at + 2], p[at + 3], v, v, v, v)
+    word_of(p[at], p[at + 1], p[at + 2], p[at + 3]) == word_of(v, v, v, v)
 }
 
 // Whether word k is the same in p and q.
+#[tactic(auto, using(crate::specs::Alike::four_same), unfolding(crate::specs::Alike::word_same, lists::specs::Lists::word))]
 pub fn word_same(p: &[u8], q: &[u8], k: usize) -> bool
     requires { (4 * k + 4 ≤ length p.now) × (4 * k + 4 ≤ length q.now) }
     ensures { result ≡ word_same p.now q.now k }
 {
     let at = 4 * k;
-    four_same(
-        p[at],
-        p[at + 1],
-        p[at + 2],
-        p[at + 3],
-        q[at],
-        q[at + 1],
-        q[at + 2],
-        q[at + 3],
-    )
+    be32(p, at) == be32(q, at)
 }
 
 // The first of n words that is not the same in p and q, or n: one by one.
+#[tactic(auto, using(list_laws::specs::Least::none_found), unfolding(crate::specs::Alike::word_differs))]
 fn other_word(p: &[u8], q: &[u8], n: usize) -> usize
     requires { (4 * n ≤ length p.now) × (4 * n ≤ length q.now) }
     ensures { result ≡ least (word_differs p.now q.now) n }
 {
-    let mut k = 0;
-    while k < n {
+    for k in 0..n {
         if !word_same(p, q, k) {
             return k;
         }
-        k += 1;
     }
     n
 }

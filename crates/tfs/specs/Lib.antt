@@ -1,4 +1,3 @@
 pub mod Told
-pub mod Passed
 pub mod Format
 pub mod List

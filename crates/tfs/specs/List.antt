@@ -11,14 +11,14 @@ use Rattle.tfs_spec.specs.Consistent.{File}
 use Rattle.tfs_spec.specs.Requests.{refused, unused, file, list_view}
 use Rattle.tfs_steps.specs.Ready.{file-ready, sized, name-sized}
 
-pub list-past : (img : List ℕ) (s : ℕ) → 25 ≤ s → refused 14 0 ≡ list_view 512 (view 512 img) s
+pub list_past : (img : List ℕ) (s : ℕ) → 25 ≤ s → refused 14 0 ≡ list_view 512 (view 512 img) s
 unfolding list_view
-list-past img s h = rw (le-ltb s 25 h)
+list_past img s h = rw (le-ltb s 25 h)
 
 module _ (img dir : List ℕ) (s : ℕ) (at : dir ≡ (view 512 img).dir) (h : s < 25) where
-  pub list-free : slot_free (slot dir s) ≡ true → unused ≡ list_view 512 (view 512 img) s
+  pub list_free : slot_free (slot dir s) ≡ true → unused ≡ list_view 512 (view 512 img) s
   unfolding list_view free
-  list-free e = rw (lt-ltb s 25 h, ← at, e)
+  list_free e = rw (lt-ltb s 25 h, ← at, e)
 
   module _ (passed : check 512 img ≡ consistent) (e : slot_free (slot dir s) ≡ false) (i : ℕ) (ei : i ≡ slot_inode (slot dir s)) where
     taken : File 512 (view 512 img) s
@@ -33,13 +33,13 @@ module _ (img dir : List ℕ) (s : ℕ) (at : dir ≡ (view 512 img).dir) (h : s
     pub list_inside : i * 512 + 512 ≤ length img
     list_inside = (file-ready img passed s taken i inode-is).0
 
-    pub list-named : (1 ≤ length (slot_name (slot dir s))) × (length (slot_name (slot dir s)) ≤ 15)
+    pub list_named : (1 ≤ length (slot_name (slot dir s))) × (length (slot_name (slot dir s)) ≤ 15)
     unfolding name
-    list-named = subst (λ (d : List ℕ). (1 ≤ length (slot_name (slot d s))) × (length (slot_name (slot d s)) ≤ 15)) (sym at) (name-sized img passed s taken)
+    list_named = subst (λ (d : List ℕ). (1 ≤ length (slot_name (slot d s))) × (length (slot_name (slot d s)) ≤ 15)) (sym at) (name-sized img passed s taken)
 
-    pub list-file : (z : ℕ) → z ≡ inode_size (block 512 img i) → file (slot_name (slot dir s)) i z ≡ list_view 512 (view 512 img) s
+    pub list_file : (z : ℕ) → z ≡ inode_size (block 512 img i) → file (slot_name (slot dir s)) i z ≡ list_view 512 (view 512 img) s
     unfolding list_view free name
-    list-file z ez =
+    list_file z ez =
         let sz : z ≡ size (view 512 img) s = sized img passed s taken i z inode-is ez in
         rw (lt-ltb s 25 h, ← sz, ← inode-is, ← at, e)
 

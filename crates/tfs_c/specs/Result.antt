@@ -1,7 +1,7 @@
 -- What a result of the C interface tells: an answer of the rules, as numbers.
 use Rattle.std.specs.Prelude.{ℕ, List, length}
 use Rattle.tfs_spec.specs.Requests.{Answer, done, value, transferred, unused, file, refused}
-use Rattle.tfs.specs.Told.{listed_name}
+use Rattle.lists.specs.Lists.{zeros, pad_to}
 use Rattle.tfs_c.specs.declared.TfsResult.{TfsResult}
 use Rattle.tfs_c.specs.declared.TfsSlot.{TfsSlot}
 
@@ -32,6 +32,15 @@ slot_with (transferred c m) name = empty_slot 0 0 name
 slot_with unused name = empty_slot 0 0 name
 slot_with (file nm i z) name = file_slot (length nm) i z name
 slot_with (refused num p) name = empty_slot num p name
+
+-- the name beside an answer: a file's, padded with zeros; else zeros
+abbrev pub listed_name : Answer → List ℕ
+listed_name done = zeros 16
+listed_name (value x) = zeros 16
+listed_name (transferred c m) = zeros 16
+listed_name unused = zeros 16
+listed_name (file nm i z) = pad_to 16 nm
+listed_name (refused num p) = zeros 16
 
 -- the name is padded with zeros, and all zeros where there is no file
 abbrev pub slot_of : Answer → TfsSlot

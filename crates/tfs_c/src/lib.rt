@@ -1,12 +1,14 @@
 // The TFS requests for C. The header is tfs.h; a slice passes as a pointer and then a length.
 #![tactic(auto)]
 
-ghost use Rattle.std.specs.Prelude.{◌≡◌};
+ghost use Rattle.std.specs.Prelude.{◌≡◌, length};
+ghost use Rattle.lists.specs.Lists.{zeros, pad_to};
 ghost use Rattle.tfs_spec.specs.Requests as rules;
-ghost use Rattle.tfs.specs.Told.{fault_answer, check_told, answer_told, transfer_told, done_told, entry_told, EntryFits};
-ghost use Rattle.tfs_c.specs.Result.{of_numbers, result_of, empty_slot, file_slot, slot_with, slot_of};
+ghost use Rattle.tfs_transfer.specs.Told.{transferred_told};
+ghost use Rattle.tfs.specs.Told.{error_number, error_place, answer_told, fault_told};
+ghost use Rattle.tfs_c.specs.Result.{of_numbers, result_of, empty_slot, file_slot, slot_of};
 
-use tfs::{Answer, CheckAnswer, Done, EntryAnswer, Fault, TransferAnswer};
+use tfs::{Entry, Error, Fault, Transferred};
 
 // The refusal's number, 0 for granted; its place; the value granted; of a transfer the number of content blocks.
 #[repr(C)]
@@ -37,77 +39,59 @@ fn granted(value: u32, blocks: u32) -> TfsResult
     TfsResult {
         refusal: 0,
         place: 0,
-        value: value,
-        blocks: blocks,
+        value,
+        blocks,
     }
 }
 
-fn refused(number: u32, place: u32) -> TfsResult
-    ensures { result ≡ of_numbers number place 0 0 }
+fn refused(error: Error) -> TfsResult
+    ensures { result ≡ of_numbers (error_number error) (error_place error) 0 0 }
 {
     TfsResult {
-        refusal: number,
-        place: place,
+        refusal: error.number(),
+        place: error.place(),
         value: 0,
         blocks: 0,
     }
 }
 
-fn of_fault(f: Fault) -> TfsResult
-    ensures { result ≡ result_of (fault_answer f) }
+#[tactic(auto, unfolding(crate::specs::Result::result_of))]
+fn of_answer(answer: Result<u32, Error>) -> TfsResult
+    ensures { result ≡ result_of (answer_told rules.value answer) }
 {
-    match f {
-        Fault::Header(n) => refused(n, 0),
-        Fault::Slot(n, s) => refused(n, s),
-        Fault::Block(n, b) => refused(n, b),
+    match answer {
+        Ok(x) => granted(x, 0),
+        Err(error) => refused(error),
     }
 }
 
-fn of_answer(a: Answer) -> TfsResult
-    ensures { result ≡ result_of (answer_told a) }
+#[tactic(auto, unfolding(crate::specs::Result::result_of))]
+fn of_transfer(answer: Result<Transferred, Error>) -> TfsResult
+    ensures { result ≡ result_of (answer_told transferred_told answer) }
 {
-    match a {
-        Answer::Granted(x) => granted(x, 0),
-        Answer::Refused(n) => refused(n, 0),
-        Answer::Inconsistent(f) => of_fault(f),
+    match answer {
+        Ok(moved) => granted(moved.count, moved.blocks),
+        Err(error) => refused(error),
     }
 }
 
-fn of_transfer(t: TransferAnswer) -> TfsResult
-    ensures { result ≡ result_of (transfer_told t) }
+#[tactic(auto, unfolding(crate::specs::Result::result_of))]
+fn of_done(answer: Result<(), Error>) -> TfsResult
+    ensures { result ≡ result_of (answer_told (λ _. rules.done) answer) }
 {
-    match t {
-        TransferAnswer::Granted(moved) => granted(moved.count, moved.blocks),
-        TransferAnswer::Refused(n) => refused(n, 0),
-        TransferAnswer::Inconsistent(f) => of_fault(f),
-    }
-}
-
-fn of_done(d: Done) -> TfsResult
-    ensures { result ≡ result_of (done_told d) }
-{
-    match d {
-        Done::Granted => granted(0, 0),
-        Done::Refused(n) => refused(n, 0),
-        Done::Inconsistent(f) => of_fault(f),
-    }
-}
-
-fn of_check(c: CheckAnswer) -> TfsResult
-    ensures { result ≡ result_of (rules.checked (check_told c) rules.refused rules.done) }
-{
-    match c {
-        CheckAnswer::Consistent => granted(0, 0),
-        CheckAnswer::Refused(f) => of_fault(f),
+    match answer {
+        Ok(()) => granted(0, 0),
+        Err(error) => refused(error),
     }
 }
 
 // The first broken rule of the volume, at its lowest place.
 #[unsafe(no_mangle)]
+#[tactic(auto, unfolding(tfs_spec::specs::Requests::check_answer))]
 pub extern "C" fn tfs_check(image: &[u8]) -> TfsResult
     ensures { result ≡ result_of (rules.check_answer 512 image.now) }
 {
-    of_check(tfs::check(image))
+    of_done(tfs::check(image).map_err(Error::Inconsistent))
 }
 
 // An empty volume with this label, whatever the image held.
@@ -155,7 +139,7 @@ pub extern "C" fn tfs_write(image: &mut [u8], name: &[u8], offset: u32, buf: &[u
 pub extern "C" fn tfs_free_bytes(image: &[u8]) -> TfsResult
     ensures { result ≡ result_of (rules.free_answer 512 image.now) }
 {
-    of_answer(tfs::free_bytes(image))
+    of_answer(tfs::free_bytes(image).map_err(Error::Inconsistent))
 }
 
 // ---- power taken in the middle
@@ -202,63 +186,51 @@ pub extern "C" fn tfs_write_store(
 pub extern "C" fn tfs_mend(image: &mut [u8]) -> TfsResult
     ensures { (result ≡ result_of (rules.mend 512 image.old).answer) × (image.new ≡ (rules.mend 512 image.old).image) }
 {
-    of_done(tfs::mend(image))
+    of_done(tfs::mend(image).map_err(Error::Inconsistent))
 }
 
 // ---- list
 
 // A slot with no file, or the refusal of list.
-fn of_none(refusal: u32, place: u32, name: [u8; 16]) -> TfsSlot
-    ensures { result ≡ empty_slot refusal place name }
+fn of_none(refusal: u32, place: u32) -> TfsSlot
+    ensures { result ≡ empty_slot refusal place (zeros 16) }
 {
     TfsSlot {
-        refusal: refusal,
-        place: place,
+        refusal,
+        place,
         used: 0,
         inode: 0,
         size: 0,
         name_length: 0,
-        name: name,
+        name: [0; 16],
     }
 }
 
 // A slot with a file.
-fn of_file(len: u32, inode: u32, size: u32, name: [u8; 16]) -> TfsSlot
-    ensures { result ≡ file_slot len inode size name }
+fn of_file(entry: &Entry) -> TfsSlot
+    ensures { result ≡ file_slot (length entry.now.name) entry.now.inode entry.now.size (pad_to 16 entry.now.name) }
 {
+    let name = &entry.name;
     TfsSlot {
         refusal: 0,
         place: 0,
         used: 1,
-        inode: inode,
-        size: size,
-        name_length: len,
-        name: name,
-    }
-}
-
-fn of_entry(e: EntryAnswer, name: [u8; 16]) -> TfsSlot
-    requires { EntryFits e }
-    ensures { result ≡ slot_with (entry_told e name) name }
-{
-    match e {
-        EntryAnswer::Free => of_none(0, 0, name),
-        EntryAnswer::Refused(n) => of_none(n, 0, name),
-        EntryAnswer::Inconsistent(f) => {
-            let r = of_fault(f);
-            of_none(r.refusal, r.place, name)
-        }
-        EntryAnswer::File(len, inode, size) => of_file(len, inode, size, name),
+        inode: entry.inode,
+        size: entry.size,
+        name_length: name.as_bytes().len() as u32,
+        name: name.padded(),
     }
 }
 
 // What stands in a slot.
 #[unsafe(no_mangle)]
+#[tactic(auto, unfolding(crate::specs::Result::slot_with))]
 pub extern "C" fn tfs_list(image: &[u8], slot: u32) -> TfsSlot
     ensures { result ≡ slot_of (rules.list_answer 512 image.now slot) }
 {
-    let l = tfs::list(image, slot);
-    let entry = l.entry;
-    let name = l.name;
-    of_entry(entry, name)
+    match tfs::list(image, slot) {
+        Ok(Some(entry)) => of_file(&entry),
+        Ok(None) => of_none(0, 0),
+        Err(error) => of_none(error.number(), error.place()),
+    }
 }

@@ -4,244 +4,123 @@
 #![tactic(auto)]
 
 mod pump; // pump.rt: the requests on the timing file
+mod request; // request.rt: the requests, by their numbers
 
-use crate::pump::{is_timing, timing_read};
-use packed::cases::{Given, Outcome, done, granted, one, refused};
+use crate::pump::timing;
+use crate::request::{Request, Store, Unknown, Volume};
+use packed::cases::{Case, Outcome, differing, done, granted, next, one, refused};
 use std::io;
 use std::io::Read;
-use tfs::{Answer, CheckAnswer, Done, EntryAnswer, Fault, ReplayAnswer, TransferAnswer};
+use tfs::{Entry, Error, Name, ReplayError, Transferred};
 
 // ---- what the requests give
 
-fn of_fault(f: Fault) -> Outcome {
-    match f {
-        Fault::Header(n) => refused(n, 0),
-        Fault::Slot(n, slot) => refused(n, slot),
-        Fault::Block(n, block) => refused(n, block),
-    }
+pub fn refusal(error: Error) -> Outcome {
+    refused(error.number(), error.place())
 }
 
-fn of_checked(c: CheckAnswer) -> Outcome {
-    match c {
-        CheckAnswer::Consistent => done(),
-        CheckAnswer::Refused(f) => of_fault(f),
-    }
+// The bytes that were read or written, and the blocks that they lie in.
+fn moved(moved: Transferred) -> Outcome {
+    granted(2, [moved.count, moved.blocks, 0, 0, 0, 0])
 }
 
-pub fn of_done(d: Done) -> Outcome {
-    match d {
-        Done::Granted => done(),
-        Done::Refused(n) => refused(n, 0),
-        Done::Inconsistent(f) => of_fault(f),
-    }
+// What stands in a slot: 0 for nothing, or 1, the inode number and the size of a file.
+fn listed(slot: Option<Entry>) -> Outcome {
+    slot.map_or(one(0), |entry| {
+        granted(3, [1, entry.inode, entry.size, 0, 0, 0])
+    })
 }
 
-pub fn of_answer(a: Answer) -> Outcome {
-    match a {
-        Answer::Granted(value) => one(value),
-        Answer::Refused(n) => refused(n, 0),
-        Answer::Inconsistent(f) => of_fault(f),
-    }
-}
-
-fn of_transfer(t: TransferAnswer) -> Outcome {
-    match t {
-        TransferAnswer::Granted(moved) => granted(2, [moved.count, moved.blocks, 0, 0, 0, 0]),
-        TransferAnswer::Refused(n) => refused(n, 0),
-        TransferAnswer::Inconsistent(f) => of_fault(f),
-    }
-}
-
-fn of_entry(e: EntryAnswer) -> Outcome {
-    match e {
-        EntryAnswer::Free => one(0),
-        EntryAnswer::File(_, inode, size) => granted(3, [1, inode, size, 0, 0, 0]),
-        EntryAnswer::Refused(n) => refused(n, 0),
-        EntryAnswer::Inconsistent(f) => of_fault(f),
-    }
-}
-
-// 0 for all replayed, 1 and 2 for a stop, with the number.
-fn of_end(end: u32, number: usize) -> Outcome {
+// How a replay ended, with a number of records: 0 for all replayed, 1 and 2 for a stop.
+fn end(end: u32, number: usize) -> Outcome {
     granted(2, [end, (number % 4294967296) as u32, 0, 0, 0, 0])
 }
 
-fn of_replay(r: ReplayAnswer) -> Outcome {
-    match r {
-        ReplayAnswer::All(n) => of_end(0, n),
-        ReplayAnswer::Malformed(k) => of_end(1, k),
-        ReplayAnswer::Differs(k) => of_end(2, k),
-        ReplayAnswer::Inconsistent(f) => of_fault(f),
+fn stop(error: ReplayError) -> Outcome {
+    match error {
+        ReplayError::Malformed(record) => end(1, record),
+        ReplayError::Differs(record) => end(2, record),
+        ReplayError::Inconsistent(fault) => refused(fault.rule(), fault.place()),
     }
 }
 
-fn listed(image: &[u8], slot: u32) -> Outcome {
-    let listing = tfs::list(image, slot);
-    let entry = listing.entry;
-    of_entry(entry)
-}
-
-// The requests by their numbers in the packed form. No table has the refusal of an unknown one.
-fn request(given: Given, name: &[u8], buf: &mut [u8], image: &mut [u8]) -> Outcome {
-    let number = given.number;
-    let request = given.request;
+fn volume(request: Volume, case: &mut Case<'_>) -> Outcome {
+    let Case { number, name, .. } = *case;
+    let image = &mut *case.image;
+    let buf = &mut *case.buf;
     match request {
-        1 => of_checked(tfs::check(image)),
-        2 => of_done(tfs::format(image, name)),
-        3 => of_answer(tfs::create(image, name, number)),
-        4 => of_done(tfs::remove(image, name)),
-        5 => of_transfer(tfs::read(image, name, number, buf)),
-        6 => of_transfer(tfs::write(image, name, number, buf)),
-        7 => listed(image, number),
-        8 => of_answer(tfs::free_bytes(image)),
-        9 => of_replay(tfs::replay(image, buf)),
-        15 => of_done(tfs::mend(image)),
-        _ => refused(1000, 0),
+        Volume::Check => tfs::check(image)
+            .map_err(Error::Inconsistent)
+            .map_or_else(refusal, |()| done()),
+        Volume::Format => tfs::format(image, name).map_or_else(refusal, |()| done()),
+        Volume::Create => tfs::create(image, name, number).map_or_else(refusal, one),
+        Volume::Remove => tfs::remove(image, name).map_or_else(refusal, |()| done()),
+        Volume::Read => tfs::read(image, name, number, buf).map_or_else(refusal, moved),
+        Volume::Write => tfs::write(image, name, number, buf).map_or_else(refusal, moved),
+        Volume::List => tfs::list(image, number).map_or_else(refusal, listed),
+        Volume::FreeBytes => tfs::free_bytes(image)
+            .map_err(Error::Inconsistent)
+            .map_or_else(refusal, one),
+        Volume::Replay => tfs::replay(image, buf).map_or_else(stop, |count| end(0, count)),
+        Volume::Mend => tfs::mend(image)
+            .map_err(Error::Inconsistent)
+            .map_or_else(refusal, |()| done()),
     }
 }
 
-// Whether a request is that of a store: of a create, a remove or a write.
-fn is_store(request: u32) -> bool {
-    12 <= request && request <= 14
-}
-
-// The k-th store of a create, a remove or a write of the bytes.
-fn store(
-    given: Given,
-    name: &[u8],
-    bytes: &[u8],
-    k: usize,
-    buf: &mut [u8],
-    image: &[u8],
-) -> Outcome {
-    let number = given.number;
-    let request = given.request;
-    match request {
-        12 => of_answer(tfs::create_store(image, name, number, k, buf)),
-        13 => of_answer(tfs::remove_store(image, name, k, buf)),
-        _ => of_answer(tfs::write_store(image, name, number, bytes, k, buf)),
-    }
-}
-
-// The same with k and the bytes read, which stand behind the image.
-fn store_read<R: Read>(
-    input: &mut R,
-    given: Given,
-    name: &[u8],
-    buf: &mut [u8],
-    image: &[u8],
-) -> io::Result<Outcome> {
+// The k-th store of a create, a remove or a write. Its k and the bytes of a write stand behind the image.
+fn store<R: Read>(input: &mut R, request: Store, case: &mut Case<'_>) -> io::Result<Outcome> {
     let k = packed::long_number(input)? as usize;
-    let mut bytes = [0u8; 69632];
-    let n = packed::bytes(input, &mut bytes)?;
-    Ok(store(given, name, &bytes[0..n], k, buf, image))
+    let mut room = [0u8; 69632];
+    let bytes = packed::bytes(input, &mut room)?;
+    let Case { number, name, .. } = *case;
+    let image = &mut *case.image;
+    let buf = &mut *case.buf;
+    let answer = match request {
+        Store::Create => tfs::create_store(image, name, number, k, buf),
+        Store::Remove => tfs::remove_store(image, name, k, buf),
+        Store::Write => tfs::write_store(image, name, number, bytes, k, buf),
+    };
+    Ok(answer.map_or_else(refusal, one))
 }
 
-// What a case's request gives.
-fn outcome<R: Read>(
-    input: &mut R,
-    given: Given,
-    name: &[u8],
-    buf: &mut [u8],
-    image: &mut [u8],
-) -> io::Result<Outcome> {
-    if is_store(given.request) {
-        return store_read(input, given, name, buf, image);
-    }
-    if is_timing(given.request) {
-        return timing_read(input, given.request, buf, image);
-    }
-    Ok(request(given, name, buf, image))
-}
-
-fn name_length(e: EntryAnswer) -> usize {
-    match e {
-        EntryAnswer::Free => 0,
-        EntryAnswer::File(length, _, _) => length as usize,
-        EntryAnswer::Refused(_) => 0,
-        EntryAnswer::Inconsistent(_) => 0,
+// What a case's request gives. No table has the refusal of an unknown one.
+fn outcome<R: Read>(input: &mut R, case: &mut Case<'_>) -> io::Result<Outcome> {
+    match Request::try_from(case.request) {
+        Ok(Request::Volume(request)) => Ok(volume(request, case)),
+        Ok(Request::Store(request)) => store(input, request, case),
+        Ok(Request::Timing(request)) => timing(input, request, case),
+        Err(Unknown) => Ok(refused(1000, 0)),
     }
 }
 
-// The first n bytes of a name.
-fn start(name: &[u8; 16], n: usize) -> &[u8] {
-    let all = &name[..];
-    if all.len() < n {
-        return all;
-    }
-    &all[0..n]
+// The name that is asked for: that of a slot's listing.
+fn listed_name(case: &Case<'_>) -> Option<Name> {
+    let Ok(Request::Volume(Volume::List)) = Request::try_from(case.request) else {
+        return None;
+    };
+    let entry = tfs::list(case.image, case.number).ok()??;
+    Some(entry.name)
 }
 
 // ---- cases
 
-// Whether a case comes out as expected. Its text is the name that a slot's listing has, and empty for the other requests.
-fn compare<R: Read>(
-    rt: &impl Print,
-    input: &mut R,
-    k: u32,
-    given: Given,
-    got: Outcome,
-    image: &[u8],
-    buf: &[u8],
-) -> io::Result<bool> {
-    if given.request != 7 {
-        return packed::cases::comes_out(rt, input, k, given.request, got, b"", image, buf);
-    }
-    let listing = tfs::list(image, given.number);
-    let entry = listing.entry;
-    let name = listing.name;
-    packed::cases::comes_out(
-        rt,
-        input,
-        k,
-        7,
-        got,
-        start(&name, name_length(entry)),
-        image,
-        buf,
-    )
-}
-
-// Case number k, read into what is lent.
-fn case_in<R: Read>(
-    rt: &impl Print,
-    input: &mut R,
-    k: u32,
-    name: &mut [u8],
-    buf: &mut [u8],
-    image: &mut [u8],
-) -> io::Result<bool> {
-    let given = packed::cases::next(input, name, buf, image)?;
-    let a = given.name;
-    let b = given.buf;
-    let c = given.image;
-    let got = outcome(input, given, &name[0..a], &mut buf[0..b], &mut image[0..c])?;
-    compare(rt, input, k, given, got, &image[0..c], &buf[0..b])
-}
-
-fn case<R: Read>(rt: &impl Print, input: &mut R, k: u32) -> io::Result<bool> {
+// Whether case number k comes out as expected. Its text is the name that a slot's listing has, and empty for the other requests.
+fn comes_out<R: Read>(rt: &impl Print, input: &mut R, k: u32) -> io::Result<bool> {
     let mut name = [0u8; 4096];
     let mut buf = [0u8; 69632];
     let mut image = [0u8; 69632];
-    case_in(rt, input, k, &mut name, &mut buf, &mut image)
-}
-
-// So many cases: how many differ.
-fn cases<R: Read>(rt: &impl Print, input: &mut R, count: u32) -> io::Result<u32> {
-    let mut differ: u32 = 0;
-    let mut k: u32 = 0;
-    while k < count {
-        k += 1;
-        if !case(rt, input, k)? {
-            differ += 1;
-        }
+    let mut case = next(input, &mut name, &mut buf, &mut image)?;
+    let got = outcome(input, &mut case)?;
+    match listed_name(&case) {
+        Some(name) => case.comes_out(rt, input, k, got, name.as_bytes()),
+        None => case.comes_out(rt, input, k, got, &[]),
     }
-    Ok(differ)
 }
 
 fn main(rt: HostRuntime) -> io::Result<()> {
     let mut input = rt.reader();
     let count = packed::number(&mut input)?;
-    let differ = cases(&rt, &mut input, count)?;
-    packed::lines::totals(&rt, count, b" cases, ", differ)
+    let differ = differing(count, |k| comes_out(&rt, &mut input, k))?;
+    println!(rt; "{count} cases, {differ} differ")
 }

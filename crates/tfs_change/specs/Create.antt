@@ -1,156 +1,98 @@
--- Each way through the plan of create on a consistent volume, and what create leaves by it.
-use Rattle.std.specs.Prelude.{◌≡◌, true, false, cond, ℕ, ◌+◌, ◌-◌, ◌≤◌, ◌<◌, length, get_or, take}
-use Rattle.std.proofs.Common.{sym, ap, ◌∙◌, subst}
+-- What the plan of create says on a consistent volume, and what create leaves by it.
+use Rattle.std.specs.Prelude.{◌≡◌, true, false, cond, Option, None, Some, ℕ, ◌+◌, ◌≤◌, ◌<◌, List, ◌++◌, length, get_or, take}
+use Rattle.std.specs.Option.{unwrap_or, is_some}
+use Rattle.std.proofs.Common.{ap, ◌∙◌, subst, arith, take_at}
 use Rattle.std.proofs.Math.Path.{ap₂}
-use mathlib.Core.List.{List, ◌++◌}
-use native.Mathlib.Omega.{arith}
-use Rattle.std.proofs.Math.ListN.{get_or-append}
 use borrow.Author.Tests.{lt-ltb, le-ltb}
 use Rattle.list_laws.specs.Test.{of-true, to-true}
 use Rattle.tfs_spec.specs.Layout.{need, name_allowed, View, view, slot_of, free_slot, free_blocks}
 use Rattle.tfs_spec.specs.Check.{consistent, check}
 use Rattle.tfs_facts.specs.CheckMeans.{check-means, need-le}
-use Rattle.tfs_spec.specs.Requests.{Answer, value, refused, granted, store_all, free_from, chosen, place_stores, create_stores, create_view}
+use Rattle.tfs_spec.specs.Requests.{Answer, value, granted, store_all, free_from, chosen, place_stores, create_stores, create_view, create_step}
 use Rattle.tfs_facts.specs.Sizes.{size-512}
 use Rattle.tfs_facts.specs.Views.{view-n}
 use Rattle.tfs_facts.specs.Entries.{allowed}
 use Rattle.tfs_facts.specs.Chosen.{CreateGrant, Choice, choice}
-use Rattle.tfs_map.specs.Under.{front, front_fits}
 use Rattle.tfs_steps.specs.Place.{Placeable, placeable-below}
 use Rattle.tfs_change.specs.declared.Plan.{Plan}
-use Rattle.tfs_change.specs.declared.Plan.TheVariants.{Takes, Refused}
 
--- the lowest free slot is s, and the first w of a list are the blocks for a file of z bytes
-pub record Taken (img nm : List ℕ) (z s w : ℕ) (list : List ℕ) : Type 0 where
-  pub slot : s ≡ free_slot 512 (view 512 img)
-  pub low : s < 25
+-- the lowest free slot, and the blocks for a file of z bytes
+pub record Taken (img nm : List ℕ) (z : ℕ) (p : Plan) : Type 0 where
+  pub slot : p.slot ≡ free_slot 512 (view 512 img)
+  pub low : p.slot < 25
   pub short : length nm ≤ 15
-  pub want : w ≡ 1 + need 512 z
-  pub few : w ≤ 128
-  pub fits : w ≤ length list
-  pub front : take (w - 0) list ≡ chosen 512 (view 512 img) z
-  pub many : length (take (w - 0) list) ≡ w
-  pub high : Placeable (take (w - 0) list) (length img)
+  pub chosen : p.blocks.now ≡ chosen 512 (view 512 img) z
+  pub many : length p.blocks.now ≡ 1 + need 512 z
+  pub few : length p.blocks.now ≤ 128
+  pub high : Placeable p.blocks.now (length img)
 
--- the answer of create by its plan, and what the plan says
-abbrev pub plan_told : List ℕ → Plan → Answer
-plan_told list (Takes s w) = value (get_or list 0 0)
-plan_told list (Refused num) = refused num 0
+-- the answer of create by its plan
+abbrev pub plan_told : Plan → Answer
+plan_told p = value (get_or p.blocks.now 0 0)
 
-abbrev pub Plans : List ℕ → List ℕ → ℕ → List ℕ → Plan → Type 0
-Plans img nm z list (Takes s w) = Taken img nm z s w list
-Plans img nm z list (Refused num) = 8 ≤ num
+-- a search that finds nothing is at the end
+pub none_found : (found : Option ℕ) (s : ℕ) → unwrap_or found 25 ≡ s → is_some found ≡ false → 25 ≤ s
+none_found None s e n = omega arith
+none_found (Some t) s e n = absurd (let z : ◌≡◌ {A = ℕ} 0 1 = cc in omega arith)
 
--- a refusal
-abbrev pub Refuses : ℕ → Answer → Type 0
-Refuses num a = (refused num 0 ≡ a) × (8 ≤ num)
-
--- tests 8 to 10 are passed
-pub record Fresh (img nm : List ℕ) (z : ℕ) : Type 0 where
-  pub named : name_allowed nm ≡ true
-  pub small : z ≤ 65024
-  pub fresh : 25 ≤ slot_of 512 (view 512 img) nm
+-- a file has 127 content blocks at most
+pub want_few : (z : ℕ) → z ≤ 65024 → 1 + need 512 z ≤ 128
+want_few z small = omega (arith, need-le 512 z 127 (omega arith) small)
 
 module _ (img nm : List ℕ) (z : ℕ) where
   abbrev v : View
   v = view 512 img
 
-  abbrev a : Answer
-  a = create_view 512 (view 512 img) nm z
+  -- what the tests of create leave
+  pub granted_by : name_allowed nm ≡ true → z ≤ 65024 → 25 ≤ slot_of 512 (view 512 img) nm → free_slot 512 (view 512 img) < 25 → 1 + need 512 z ≤ free_blocks (view 512 img) → CreateGrant 512 (view 512 img) nm z
+  granted_by named small fresh slot room =
+      record { named = of-true (name_allowed nm) named; small = small; fresh = fresh; slot = slot; room = room }
 
-  -- ---- the tests in order
-  pub create-unallowed : name_allowed nm ≡ false → Refuses 8 a
+  create_answer : CreateGrant 512 (view 512 img) nm z → value (get_or (chosen 512 (view 512 img) z) 0 0) ≡ create_view 512 (view 512 img) nm z
   unfolding create_view
-  create-unallowed e = (rw e, omega arith)
+  create_answer gr =
+      rw (to-true (name_allowed nm) gr.named, le-ltb 65024 z gr.small, le-ltb (slot_of 512 v nm) 25 gr.fresh, lt-ltb (free_slot 512 v) 25 gr.slot, le-ltb (free_blocks v) (1 + need 512 z) gr.room)
 
-  module _ (named : name_allowed nm ≡ true) where
-    pub create-large : 65024 < z → Refuses 9 a
-    unfolding create_view
-    create-large h = (rw (named, lt-ltb 65024 z h), omega arith)
+  -- all passed: the chosen blocks are the front of out
+  module _ (gr : CreateGrant 512 (view 512 img) nm z) (passed : check 512 img ≡ consistent) (w : ℕ) (want : w ≡ need 512 z) (out rest : List ℕ) (is : out ≡ take (1 + w) (free_from (view 512 img).map 0 (view 512 img).n) ++ rest) where
+    free : Choice 512 (view 512 img) z
+    free = choice 512 v ((check-means 512 size-512 img).0 passed).sound z gr.room
 
-    module _ (small : z ≤ 65024) (t : ℕ) (found : t ≡ slot_of 512 (view 512 img) nm) where
-      pub create-twice : t < 25 → Refuses 10 a
-      unfolding create_view
-      create-twice h = (rw (named, le-ltb 65024 z small, ← found, lt-ltb t 25 h), omega arith)
+    pub front_chosen : take (1 + w) out ≡ chosen 512 (view 512 img) z
+    unfolding chosen
+    front_chosen =
+        let many : length (take (1 + need 512 z) (free_from v.map 0 v.n)) ≡ 1 + need 512 z = free.length-cs in
+        rw (is, want) (take_at (take (1 + need 512 z) (free_from v.map 0 v.n)) rest (1 + need 512 z) many)
 
-      pub create-fresh : 25 ≤ t → Fresh img nm z
-      create-fresh h = record { named = named; small = small; fresh = omega arith }
+    pub taken : (p : Plan) → p.slot ≡ free_slot 512 (view 512 img) → p.blocks.now ≡ take (1 + w) out → Taken img nm z p
+    taken p lowest front =
+        let all : p.blocks.now ≡ chosen 512 (view 512 img) z = front ∙ front_chosen in
+        let many : length p.blocks.now ≡ 1 + need 512 z = ap length all ∙ free.length-cs in
+        record {
+          slot = lowest;
+          low = omega (arith, gr.slot);
+          short = omega (arith, (allowed nm gr.named).short);
+          chosen = all;
+          many = many;
+          few = omega (arith, want_few z gr.small);
+          high =
+              rw all
+              (placeable-below (chosen 512 v z) img
+              (λ i l.
+              let p = free.at-cs i l in
+              (p.inside.low, subst (λ (x : ℕ). get_or (chosen 512 v z) i 0 < x) (view-n 512 img) p.inside.high)));
+        }
 
-  module _ (f : Fresh img nm z) (s : ℕ) (free : s ≡ free_slot 512 (view 512 img)) where
-    pub create-full : 25 ≤ s → Refuses 11 a
-    unfolding create_view
-    create-full h =
-        (rw (f.named, le-ltb 65024 z f.small, le-ltb (slot_of 512 v nm) 25 f.fresh, ← free, le-ltb s 25 h), omega arith)
-
-    module _ (slot : s < 25) (c w : ℕ) (counted : c ≡ free_blocks (view 512 img)) (want : w ≡ need 512 z) where
-      pub create-crowded : c < 1 + w → Refuses 12 a
-      unfolding create_view
-      create-crowded h = (
-        rw (f.named, le-ltb 65024 z f.small, le-ltb (slot_of 512 v nm) 25 f.fresh, ← free, lt-ltb s 25 slot, ← counted, ← want, lt-ltb c (1 + w) h),
-        omega arith,
-      )
-
-      pub create-grant : 1 + w ≤ c → CreateGrant 512 (view 512 img) nm z
-      create-grant h =
-          record {
-            named = of-true (name_allowed nm) f.named;
-            small = f.small;
-            fresh = f.fresh;
-            slot = omega arith;
-            room = omega arith;
-          }
-
-  -- ---- all passed
-  module _ (gr : CreateGrant 512 (view 512 img) nm z) where
-    create-answer : value (get_or (chosen 512 (view 512 img) z) 0 0) ≡ create_view 512 (view 512 img) nm z
-    unfolding create_view
-    create-answer =
-        rw (to-true (name_allowed nm) gr.named, le-ltb 65024 z gr.small, le-ltb (slot_of 512 v nm) 25 gr.fresh, lt-ltb (free_slot 512 v) 25 gr.slot, le-ltb (free_blocks v) (1 + need 512 z) gr.room)
-
-    module _ (w : ℕ) (want : w ≡ need 512 z) where
-      pub want-few : 1 + w ≤ 128
-      want-few = omega (arith, need-le 512 z 127 (omega arith) gr.small)
-
-      pub want-free : 1 + w ≤ free_blocks (view 512 img)
-      want-free = omega (arith, gr.room)
-
-      chosen_is : take (1 + w) (free_from v.map 0 v.n) ≡ chosen 512 v z
-      unfolding chosen
-      chosen_is = rw want
-
-      pub create-taken : check 512 img ≡ consistent → (s : ℕ) (list rest : List ℕ) → s ≡ free_slot 512 (view 512 img) → list ≡ take (1 + w) (free_from (view 512 img).map 0 (view 512 img).n) ++ rest → (value (get_or list 0 0) ≡ create_view 512 (view 512 img) nm z) × Taken img nm z s (1 + w) list
-      create-taken passed s list rest lowest picked =
-          let free : Choice 512 v z = choice 512 v ((check-means 512 size-512 img).0 passed).sound z gr.room in
-          let many : length (chosen 512 v z) ≡ 1 + w = free.length-cs ∙ ap (λ (x : ℕ). 1 + x) (sym want) in
-          let is : list ≡ chosen 512 v z ++ rest = picked ∙ ap (λ (l : List ℕ). l ++ rest) chosen_is in
-          let cut : take (1 + w - 0) list ≡ chosen 512 v z = front list (chosen 512 v z) rest (1 + w) is many in
-          let first : get_or list 0 0 ≡ get_or (chosen 512 v z) 0 0 = ap (λ (l : List ℕ). get_or l 0 0) is ∙ get_or-append (chosen 512 v z) rest 0 0 (omega (arith, many)) in (
-            ap value first ∙ create-answer,
-            record {
-              slot = lowest;
-              low = omega (arith, gr.slot);
-              short = omega (arith, (allowed nm gr.named).short);
-              want = omega arith;
-              few = want-few;
-              fits = front_fits list (chosen 512 v z) rest (1 + w) is many;
-              front = cut;
-              many = ap length cut ∙ many;
-              high =
-                  rw cut
-                  (placeable-below (chosen 512 v z) img
-                  (λ i l.
-                  let p = free.at-cs i l in
-                  (p.inside.low, subst (λ (x : ℕ). get_or (chosen 512 v z) i 0 < x) (view-n 512 img) p.inside.high)));
-            },
-          )
+    pub answered : (bs : List ℕ) → bs ≡ take (1 + w) out → value (get_or bs 0 0) ≡ create_view 512 (view 512 img) nm z
+    answered bs front = ap (λ (l : List ℕ). value (get_or l 0 0)) (front ∙ front_chosen) ∙ create_answer gr
 
   -- ---- the file placed by the plan
-  module _ (s w : ℕ) (list : List ℕ) (taken : Taken img nm z s w list) where
-    pub stores-are : place_stores 512 (view 512 img) s nm z (take (w - 0) list) ≡ create_stores 512 (view 512 img) nm z
+  module _ (p : Plan) (t : Taken img nm z p) where
+    pub stores_are : place_stores 512 (view 512 img) p.slot nm z p.blocks.now ≡ create_stores 512 (view 512 img) nm z
     unfolding create_stores
-    stores-are = ap₂ (λ (x : ℕ) (l : List ℕ). place_stores 512 v x nm z l) taken.slot taken.front
+    stores_are = ap₂ (λ (x : ℕ) (l : List ℕ). place_stores 512 v x nm z l) t.slot t.chosen
 
-    pub create-done : value (get_or list 0 0) ≡ create_view 512 (view 512 img) nm z → (after : List ℕ) → after ≡ store_all 512 img (place_stores 512 (view 512 img) s nm z (take (w - 0) list)) → after ≡ cond (granted (create_view 512 (view 512 img) nm z)) (store_all 512 img (create_stores 512 (view 512 img) nm z)) img
-    create-done told after p =
+    pub create_done : plan_told p ≡ create_view 512 (view 512 img) nm z → (after : List ℕ) → after ≡ store_all 512 img (place_stores 512 (view 512 img) p.slot nm z p.blocks.now) → after ≡ (create_step 512 img nm z).image
+    create_done told after e =
         let new : List ℕ = store_all 512 img (create_stores 512 v nm z) in
-        p ∙ ap (store_all 512 img) stores-are ∙ ap (λ (x : Answer). cond (granted x) new img) told
+        e ∙ ap (store_all 512 img) stores_are ∙ ap (λ (x : Answer). cond (granted x) new img) told

@@ -1,85 +1,104 @@
 // Create and remove on a consistent volume.
 #![tactic(auto)]
 
-ghost use Rattle.std.specs.Prelude.{◌≡◌};
+ghost use Rattle.std.specs.Prelude.{◌≡◌, IfOk};
 ghost use Rattle.tfs_spec.specs.Layout.{view};
-ghost use Rattle.tfs_spec.specs.Check.{consistent, check};
-ghost use Rattle.tfs_spec.specs.Requests.{create_view, create_step, remove_step};
-ghost use Rattle.tfs_steps.specs.Told.{step_told, remove_told, StepFits};
-ghost use Rattle.tfs_change.specs.Create.{plan_told, Plans};
+ghost use Rattle.tfs_spec.specs.Check.{consistent, check, file_claims};
+ghost use Rattle.tfs_spec.specs.Consistent.{File};
+ghost use Rattle.tfs_spec.specs.Requests.{done, value, create_view, create_step, remove_step};
+ghost use Rattle.tfs_refusal.specs.Told.{step_told};
+ghost use Rattle.tfs_map.specs.Under.{Under};
+ghost use Rattle.tfs_change.specs.Create.{plan_told, Taken};
 
-use tfs_dir::lookup::{Lookup, look_up};
+use tfs_dir::lookup::look_up;
 use tfs_dir::names::name_allowed;
 use tfs_dir::volume::{free_slot, inode_at, slot_of};
 use tfs_inode::read::blocks_needed;
 use tfs_inode::volume::file_blocks;
-use tfs_layout::{FILE_BLOCKS, MAX_SIZE, SLOTS};
+use tfs_layout::{FILE_BLOCKS, MAX_SIZE};
 use tfs_map::volume::{choose, free_blocks};
-use tfs_steps::Step;
+use tfs_refusal::Refusal;
 use tfs_steps::erase::erase_file;
 use tfs_steps::place::place_file;
 
-// What a create takes: a slot and so many blocks, the inode's among them, or the refusal's number.
+// What a create takes: a slot, and the blocks of the new file, the inode's first.
 #[derive(Clone, Copy)]
-pub enum Plan {
-    Takes(usize, usize),
-    Refused(u32),
+pub struct Plan<'a> {
+    pub slot: usize,
+    pub blocks: &'a [u32],
 }
 
-// The refusals of create in their order, or the lowest free slot and the chosen blocks, which go to the front of list.
-pub fn plan_of(image: &[u8], name: &[u8], size: u32, list: &mut [u32; FILE_BLOCKS]) -> Plan
-    requires { check 512 image.now ≡ consistent }
-    ensures { (plan_told list.new result ≡ create_view 512 (view 512 image.now) name.now size) × Plans image.now name.now size list.new result }
+// The refusals of create in their order, or the lowest free slot and the chosen blocks, which lie at the front of list.
+#[tactic(auto, using(tfs_steps::specs::Ready::long, crate::specs::Create::want_few), unfolding(tfs_spec::specs::Requests::create_view))]
+pub fn plan_of<'a>(
+    image: &[u8],
+    name: &[u8],
+    size: u32,
+    list: &'a mut [u32; FILE_BLOCKS],
+) -> Result<Plan<'a>, Refusal>
+    requires passed { check 512 image.now ≡ consistent }
+    ensures answer { step_told plan_told result ≡ create_view 512 (view 512 image.now) name.now size }
+    ensures plan { IfOk result (Taken image.now name.now size) }
 {
     if !name_allowed(name) {
-        return Plan::Refused(8);
+        return Err(Refusal::NameNotAllowed);
     }
     if MAX_SIZE < size {
-        return Plan::Refused(9);
+        return Err(Refusal::SizeTooLarge);
     }
-    if slot_of(image, name) < SLOTS {
-        return Plan::Refused(10);
+    if slot_of(image, name).is_some() {
+        return Err(Refusal::NameExists);
     }
-    let s = free_slot(image);
-    if SLOTS <= s {
-        return Plan::Refused(11);
-    }
+    let Some(slot) = free_slot(image) else {
+        return Err(Refusal::NoFreeSlot);
+    };
     let want = 1 + blocks_needed(size);
     if free_blocks(image) < want {
-        return Plan::Refused(12);
+        return Err(Refusal::NoRoom);
     }
     choose(image, want, list);
-    Plan::Takes(s, want)
+    Ok(Plan {
+        slot,
+        blocks: &list[..want],
+    })
 }
 
-// A file of this name and size, all zeros.
-pub fn create_step(image: &mut [u8], name: &[u8], size: u32) -> Step
-    requires { check 512 image.old ≡ consistent }
-    ensures { (step_told result ≡ (create_step 512 image.old name.now size).answer) × (image.new ≡ (create_step 512 image.old name.now size).image) × StepFits result }
+// A file of this name and size, all zeros: the number of its inode.
+#[tactic(auto, using(tfs_steps::specs::Ready::long))]
+pub fn create_step(image: &mut [u8], name: &[u8], size: u32) -> Result<u32, Refusal>
+    requires passed { check 512 image.old ≡ consistent }
+    ensures answer { step_told value result ≡ (create_step 512 image.old name.now size).answer }
+    ensures image { image.new ≡ (create_step 512 image.old name.now size).image }
 {
     let mut list = [0u32; FILE_BLOCKS];
-    match plan_of(image, name, size, &mut list) {
-        Plan::Refused(n) => Step::Refused(n),
-        Plan::Takes(s, want) => {
-            place_file(image, s, name, size, &list[0..want]);
-            Step::Granted(list[0])
-        }
-    }
+    let plan = plan_of(image, name, size, &mut list)?;
+    place_file(image, plan.slot, name, size, plan.blocks);
+    Ok(plan.blocks[0])
+}
+
+// The blocks of the file in slot s, the inode's first, which lie at the front of list.
+#[tactic(auto, using(tfs_steps::specs::Ready::long))]
+pub fn blocks_of<'a>(image: &[u8], s: usize, list: &'a mut [u32; FILE_BLOCKS]) -> &'a [u32]
+    requires passed { check 512 image.now ≡ consistent }
+    requires file { File 512 (view 512 image.now) s }
+    ensures claims { result.now ≡ file_claims 512 (view 512 image.now) s }
+    ensures under { Under 4096 result.now }
+{
+    let inode = inode_at(image, s);
+    let count = file_blocks(image, inode as usize, list);
+    &list[..count]
 }
 
 // Removes the file of this name: its blocks are free, its slot is zero.
-pub fn remove_step(image: &mut [u8], name: &[u8]) -> Step
-    requires { check 512 image.old ≡ consistent }
-    ensures { (remove_told result ≡ (remove_step 512 image.old name.now).answer) × (image.new ≡ (remove_step 512 image.old name.now).image) × StepFits result }
+#[tactic(auto, using(tfs_steps::specs::Ready::long), unfolding(tfs_spec::specs::Requests::remove_view))]
+pub fn remove_step(image: &mut [u8], name: &[u8]) -> Result<(), Refusal>
+    requires passed { check 512 image.old ≡ consistent }
+    ensures answer { step_told (λ x. done) result ≡ (remove_step 512 image.old name.now).answer }
+    ensures image { image.new ≡ (remove_step 512 image.old name.now).image }
 {
-    match look_up(image, name) {
-        Lookup::Refused(n) => Step::Refused(n),
-        Lookup::InSlot(s) => {
-            let b = inode_at(image, s);
-            let mut list = [0u32; FILE_BLOCKS];
-            let k = file_blocks(image, b as usize, &mut list);
-            erase_file(image, s, &list[0..k]);
-            Step::Granted(0)
-        }
-    }
+    let s = look_up(image, name)?;
+    let mut list = [0u32; FILE_BLOCKS];
+    let blocks = blocks_of(image, s, &mut list);
+    erase_file(image, s, blocks);
+    Ok(())
 }

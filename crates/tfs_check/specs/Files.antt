@@ -29,6 +29,10 @@ pub blocks-le : (img : List ℕ) → blocks 512 img ≤ 4096
 unfolding blocks
 blocks-le img = omega arith
 
+pub blocks-ge : (img : List ℕ) → 1536 ≤ length img → 3 ≤ blocks 512 img
+unfolding blocks
+blocks-ge img h = omega arith
+
 -- ---- a slot that is not bad, and not free
 used-of : (f u r : Bool) → (not f && (not u || r)) ≡ false → f ≡ false → u ≡ true
 used-of true u r e z = cc
@@ -81,9 +85,16 @@ module _ (img : List ℕ) (s : ℕ) (below : s < 25) (none : least (bad_slot (vi
       ∙ ap (claim_list (inode v s)) inode-part
 
 -- a slot is free where its inode number is 0
-pub free-zero : (img : List ℕ) (s : ℕ) → Formed img → s < 25 → eqb (inode (view 512 img) s) 0 ≡ free (view 512 img) s
+free-zero : (img : List ℕ) (s : ℕ) → Formed img → s < 25 → eqb (inode (view 512 img) s) 0 ≡ free (view 512 img) s
 free-zero img s w h = by (free (view 512 img) s) refl
   where
     by : (t : Bool) → free (view 512 img) s ≡ t → eqb (inode (view 512 img) s) 0 ≡ t
     by true e = eq-eqb (inode (view 512 img) s) 0 (free-inode (view 512 img) s (of-true (free (view 512 img) s) e))
     by false e = ne_eqb (inode (view 512 img) s) 0 (λ z. omega (arith, inode-over img s h w.slots e))
+
+module _ (img : List ℕ) (s : ℕ) (w : Formed img) (h : s < 25) where
+  pub free-at : inode (view 512 img) s ≡ 0 → free (view 512 img) s ≡ true
+  free-at e = sym (free-zero img s w h) ∙ eq-eqb (inode (view 512 img) s) 0 e
+
+  pub used-at : (inode (view 512 img) s ≡ 0 → ⊥) → free (view 512 img) s ≡ false
+  used-at d = sym (free-zero img s w h) ∙ ne_eqb (inode (view 512 img) s) 0 d

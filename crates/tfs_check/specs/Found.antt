@@ -1,5 +1,5 @@
 -- What claims of blocks find, by the code's answers.
-use Rattle.std.specs.Prelude.{◌≡◌, Bool, true, false, not, List, T, leb, ltb}
+use Rattle.std.specs.Prelude.{◌≡◌, Bool, true, false, not, List, T, leb, ltb, Option, Some, None}
 use Rattle.std.proofs.Common.{sym, subst, ◌∙◌, arith, leb→le, lt-ltb, le-ltb, le-leb, ltb-false}
 use Prim.Native.Nat.{ℕ, ◌≤◌, ◌<◌}
 use Rattle.std.proofs.Math.Dec.{ltb→lt}
@@ -7,25 +7,16 @@ use Rattle.lists.specs.Lists.{least}
 use Rattle.list_laws.specs.Test.{of-true, to-true, no_false, not-not, and_l, and_r}
 use Rattle.list_laws.specs.Least.{Below, found, none_found, least-hit, least-none}
 use Rattle.tfs_spec.specs.Layout.{map_bit, set_bit, set_bits, need, in_range, inode_size, inode_number, View, free}
-use Rattle.tfs_spec.specs.Check.{file_claims, bad_inode, claims}
+use Rattle.tfs_spec.specs.Check.{file_claims, bad_inode}
 use Rattle.tfs_inode.specs.Wrong.{number_wrong, inode_wrong, bad-inode, listed-wrong, wrong-one, Spare, right-inode, need-small}
 use Rattle.tfs_inode.specs.Claims.{claim_list}
 use Rattle.tfs_check.specs.Doubled.{lower_of, doubled, numbers_to, marked_all, twice-all}
 use Rattle.tfs_check.specs.Claimed.{none-marked, none-doubled}
-use Rattle.tfs_check.specs.declared.claims.Claim.{Claim}
-use Rattle.tfs_check.specs.declared.claims.Claim.TheVariants.{Wrong, Lowest}
-use Rattle.tfs_check.specs.declared.claims.Claims.{Claims}
-use Rattle.tfs_check.specs.declared.claims.Claims.TheVariants.{WrongSlot, AllMade}
 
 -- of the claims of a list of blocks in a map: something is wrong; or all are marked, and r is the lowest of low and the blocks claimed twice
-abbrev pub Claimed : Bool → List ℕ → List ℕ → ℕ → List ℕ → Claim → Type 0
-Claimed wrong list map low after Wrong = wrong ≡ true
-Claimed wrong list map low after (Lowest r) = (wrong ≡ false) × (after ≡ set_bits map 1 list) × (r ≡ doubled map list low)
-
--- of those of all files: s is the first slot that breaks rule 5; or all are marked, and r is the lowest of n and the blocks claimed twice
-abbrev pub FilesClaimed : View → ℕ → List ℕ → List ℕ → Claims → Type 0
-FilesClaimed v n map after (WrongSlot s) = (s < 25) × (s ≡ least (bad_inode 512 v) 25)
-FilesClaimed v n map after (AllMade r) = (25 ≡ least (bad_inode 512 v) 25) × (after ≡ set_bits map 1 (claims 512 v)) × (r ≡ doubled map (claims 512 v) n)
+abbrev pub Claimed : Bool → List ℕ → List ℕ → ℕ → List ℕ → Option ℕ → Type 0
+Claimed wrong list map low after None = wrong ≡ true
+Claimed wrong list map low after (Some r) = (wrong ≡ false) × (after ≡ set_bits map 1 list) × (r ≡ doubled map list low)
 
 -- ---- a number in range, by the code's test
 pub range-right : (n b : ℕ) (t : Bool) → t ≡ in_range n b → not t ≡ false → (3 ≤ b) × (b < n)
@@ -62,14 +53,14 @@ module _ (n : ℕ) (ino : List ℕ) (count : ℕ) where
       no_false (number_wrong 512 n ino k) (least-none (number_wrong 512 n ino) count (ltb-false (least (number_wrong 512 n ino) count) count e) k h)
 
 -- ---- a file: its inode's own block, then its numbers
-pub file-claimed : (n : ℕ) (ino : List ℕ) (count b : ℕ) (map : List ℕ) (low : ℕ) (after : List ℕ) (r : Claim) → count ≡ need 512 (inode_size ino) → inode_size ino ≤ 65024 → Spare ino false → Claimed (listed_wrong n ino count) (numbers_to ino count) (set_bit map b 1) (lower_of (map_bit map b) b low) after r → Claimed (inode_wrong 512 n ino) (claim_list b ino) map low after r
-file-claimed n ino count b map low after Wrong e small spare wrong = listed-wrong-inode n ino count (omega (arith, need-small (inode_size ino) small)) wrong
-file-claimed n ino count b map low after (Lowest r) e small spare (right, marked, twice) = (
+pub file-claimed : (n : ℕ) (ino : List ℕ) (count b : ℕ) (map : List ℕ) (low : ℕ) (after : List ℕ) (r : Option ℕ) → count ≡ need 512 (inode_size ino) → inode_size ino ≤ 65024 → Spare ino false → Claimed (listed_wrong n ino count) (numbers_to ino count) (set_bit map b 1) (lower_of (map_bit map b) b low) after r → Claimed (inode_wrong 512 n ino) (claim_list b ino) map low after r
+file-claimed n ino count b map low after None e small spare wrong = listed-wrong-inode n ino count (omega (arith, need-small (inode_size ino) small)) wrong
+file-claimed n ino count b map low after (Some r) e small spare (right, marked, twice) = (
   right-inode n ino small (λ k h. listed-right n ino count right k (omega arith)) spare,
   marked ∙ marked_all map ino b count e,
   twice ∙ twice-all map ino b count low e,
 )
 
 -- ---- a free slot claims nothing
-pub free-claimed : (v : View) (s : ℕ) (map : List ℕ) (low : ℕ) → free v s ≡ true → Claimed (bad_inode 512 v s) (file_claims 512 v s) map low map (Lowest low)
+pub free-claimed : (v : View) (s : ℕ) (map : List ℕ) (low : ℕ) → free v s ≡ true → Claimed (bad_inode 512 v s) (file_claims 512 v s) map low map (Some low)
 free-claimed v s map low e = (rw (bad-inode 512 v s, e), none-marked v s map e, none-doubled v s map e low)

@@ -1,4 +1,3 @@
-pub mod Told
 pub mod Files
 pub mod Doubled
 pub mod Taken

@@ -1,14 +1,13 @@
-// The slots of a volume.
-ghost use Rattle.std.specs.Prelude.{◌≡◌, ◌<◌};
-ghost use Rattle.tfs_spec.specs.Layout.{view, free};
+// A volume whose slots are formed.
+ghost use Rattle.std.specs.Prelude.{◌≡◌};
+ghost use Rattle.tfs_spec.specs.Layout.{blocks};
 ghost use Rattle.tfs_check.specs.Files.{Formed};
 
-use tfs_dir::volume::inode_at;
-
-// Whether slot s is free: in a volume that keeps rule 4 a used slot has an inode number over 2.
-pub fn is_free(image: &[u8], s: usize) -> bool
-    requires { Formed image.now × (s < 25) }
-    ensures { result ≡ free (view 512 image.now) s }
-{
-    inode_at(image, s) == 0
+// The image of a volume that keeps rules 1 to 4, and how many blocks it has.
+#[derive(Clone, Copy)]
+pub struct Volume<'a> {
+    pub image: &'a [u8],
+    pub n: usize,
+    ghost formed: { Formed image.now },
+    ghost counted: { n ≡ blocks 512 image.now },
 }

@@ -8,6 +8,7 @@ use spans::words::be32;
 use tfs_layout::{MAGIC, NAME, NAME_AT, head_of};
 
 // Whether the magic number differs.
+#[tactic(auto, unfolding(tfs_spec::specs::Check::bad_magic))]
 pub fn magic_wrong(image: &[u8]) -> bool
     requires { 1536 ≤ length image.now }
     ensures { result ≡ bad_magic (view 512 image.now) }
@@ -16,11 +17,11 @@ pub fn magic_wrong(image: &[u8]) -> bool
 }
 
 // Whether the name of the volume has no zero byte.
+#[tactic(auto, unfolding(lists::specs::Lists::part, tfs_spec::specs::Check::bad_label))]
 pub fn label_wrong(image: &[u8]) -> bool
     requires { 1536 ≤ length image.now }
     ensures { result ≡ bad_label (view 512 image.now) }
 {
     let head = head_of(image);
-    let e = NAME_AT + NAME;
-    NAME <= first_zero(&head[NAME_AT..e])
+    NAME <= first_zero(&head[NAME_AT..NAME_AT + NAME])
 }

@@ -1,5 +1,10 @@
 -- The directory's searches, and what they are in the rules.
-use Rattle.std.specs.Prelude.{◌≡◌, refl, Bool, not, ◌&&◌, ◌||◌, ℕ, List, ltb}
+use Rattle.std.specs.Prelude.{◌≡◌, refl, Bool, not, ◌&&◌, ◌||◌, ℕ, ◌<◌, List, ltb, is_some, IfSome}
+use Rattle.std.specs.Option.{unwrap_or}
+use Rattle.std.specs.Prelude.{Option}
+use Rattle.std.specs.declared.option.Option.TheVariants.{None, Some}
+use Rattle.std.proofs.Common.{sym, arith}
+use borrow.Author.Tests.{lt-ltb, le-ltb}
 use Rattle.lists.specs.Lists.{least}
 use Rattle.tfs_spec.specs.Layout.{slot, slot_name, slot_free, slot_used, same_name, View, free, used, name, slot_of, free_slot}
 use Rattle.tfs_spec.specs.Check.{repeats, bad_slot}
@@ -38,3 +43,8 @@ slot-of v nm = refl
 pub free-slot : (v : View) → free_slot 512 v ≡ find_free v.dir
 unfolding free_slot find_free free
 free-slot v = refl
+
+-- a search found a slot where the number that it tells is below the bound
+pub found-below : (r : Option ℕ) (n : ℕ) → IfSome r (λ s. s < n) → is_some r ≡ ltb (unwrap_or r n) n
+found-below None n h = sym (le-ltb n n (omega arith))
+found-below (Some s) n h = sym (lt-ltb s n h)

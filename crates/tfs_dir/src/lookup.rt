@@ -1,31 +1,26 @@
 // The lookup of a name.
-ghost use Rattle.std.specs.Prelude.{◌≡◌, ◌≤◌, length};
+ghost use Rattle.std.specs.Prelude.{◌≡◌, ◌≤◌, length, IfOk};
 ghost use Rattle.tfs_spec.specs.Layout.{view};
+ghost use Rattle.tfs_spec.specs.Consistent.{File};
 ghost use Rattle.tfs_spec.specs.Requests.{lookup};
 ghost use Rattle.tfs_dir.specs.Lookup.{lookup_told};
 
 use crate::names::name_allowed;
 use crate::volume::slot_of;
-use tfs_layout::SLOTS;
+use tfs_refusal::Refusal;
 
-// What the lookup of a name gives: the slot of its file, or the refusal's number.
-#[derive(Clone, Copy)]
-pub enum Lookup {
-    InSlot(usize),
-    Refused(u32),
-}
-
-// The lookup of a name: 8, 13.
-pub fn look_up(image: &[u8], name: &[u8]) -> Lookup
+// The slot of the file of this name.
+#[tactic(auto, unfolding(tfs_spec::specs::Requests::lookup))]
+pub fn look_up(image: &[u8], name: &[u8]) -> Result<usize, Refusal>
     requires { 1536 ≤ length image.now }
-    ensures { lookup_told result ≡ lookup 512 (view 512 image.now) name.now }
+    ensures told { lookup_told result ≡ lookup 512 (view 512 image.now) name.now }
+    ensures file { IfOk result (File 512 (view 512 image.now)) }
 {
     if !name_allowed(name) {
-        return Lookup::Refused(8);
+        return Err(Refusal::NameNotAllowed);
     }
-    let s = slot_of(image, name);
-    if SLOTS <= s {
-        return Lookup::Refused(13);
-    }
-    Lookup::InSlot(s)
+    let Some(s) = slot_of(image, name) else {
+        return Err(Refusal::NoSuchName);
+    };
+    Ok(s)
 }

@@ -1,102 +1,96 @@
 // One slot of the directory: its inode number in 4 bytes, then its name in 16.
-ghost use Rattle.std.specs.Prelude.{◌≡◌, ◌<◌, ◌≤◌, length};
+ghost use Rattle.std.specs.Prelude.{◌≡◌, ◌≤◌, length};
 ghost use Rattle.lists.specs.Lists.{pad_to};
-ghost use Rattle.tfs_spec.specs.Layout.{slot, slot_free, slot_inode, slot_used, slot_name, same_name};
+ghost use Rattle.tfs_spec.specs.Layout.{slot_free, slot_inode, slot_used, slot_name, same_name, name_field};
 ghost use Rattle.tfs_dir.specs.Slots.{last_same};
 
 use crate::names::name_formed;
-use spans::copy::copy;
-use spans::search::{first_zero, same};
+use spans::search::first_zero;
 use spans::words::be32;
 use tfs_layout::{NAME, NAME_AT, SLOT};
 
-// The inode number in slot s.
-pub fn slot_inode(dir: &[u8], s: usize) -> u32
-    requires { (length dir.now ≡ 512) × (s < 25) }
-    ensures { result ≡ slot_inode (slot dir.now s) }
-{
-    let a = s * SLOT;
-    let e = a + SLOT;
-    be32(&dir[a..e], 0)
+// A slot, on its bytes.
+#[derive(Clone, Copy)]
+pub struct Slot<'a> {
+    pub bytes: &'a [u8],
+    pub ghost whole: { length bytes.now ≡ 20 },
 }
 
-// Whether slot s is free: inode number 0, and an empty name.
-pub fn slot_free(dir: &[u8], s: usize) -> bool
-    requires { (length dir.now ≡ 512) × (s < 25) }
-    ensures { result ≡ slot_free (slot dir.now s) }
-{
-    if slot_inode(dir, s) != 0 {
-        return false;
+impl<'a> Slot<'a> {
+    // The inode number.
+    #[tactic(auto, unfolding(tfs_spec::specs::Layout::slot_inode))]
+    pub fn inode(self) -> u32
+        ensures { result ≡ slot_inode self.entry.bytes.now }
+    {
+        be32(self.bytes, 0)
     }
-    dir[s * SLOT + NAME_AT] == 0
-}
 
-// Whether slot s is used, in a volume of n blocks.
-pub fn slot_used(dir: &[u8], s: usize, n: usize) -> bool
-    requires { (length dir.now ≡ 512) × (s < 25) }
-    ensures { result ≡ slot_used n (slot dir.now s) }
-{
-    let number = slot_inode(dir, s);
-    let b = number as usize;
-    if b < 3 {
-        return false;
+    // The bytes of the name.
+    #[tactic(auto, unfolding(lists::specs::Lists::part))]
+    pub fn name_field(self) -> &'a [u8]
+        ensures bytes { result.now ≡ name_field self.entry.bytes.now }
+        ensures long { length result.now ≡ 16 }
+    {
+        &self.bytes[NAME_AT..SLOT]
     }
-    if n <= b {
-        return false;
-    }
-    let a = s * SLOT + NAME_AT;
-    let e = a + NAME;
-    name_formed(&dir[a..e])
-}
 
-// The length of the name in slot s, which ends at the first zero byte.
-pub fn name_length(dir: &[u8], s: usize) -> usize
-    requires { (length dir.now ≡ 512) × (s < 25) }
-    ensures { (result ≡ length (slot_name (slot dir.now s))) × (result ≤ 16) }
-{
-    let a = s * SLOT + NAME_AT;
-    let e = a + NAME;
-    first_zero(&dir[a..e])
-}
-
-// Whether the last byte of the name stands in slot s at its place, or there is no such place.
-fn last_same(dir: &[u8], s: usize, name: &[u8]) -> bool
-    requires { (length dir.now ≡ 512) × (s < 25) }
-    ensures { result ≡ last_same dir.now s name.now }
-{
-    let k = name.len();
-    if k < 1 {
-        return true;
+    // Whether the slot is free: inode number 0, and an empty name.
+    #[tactic(auto, using(crate::specs::Slots::first_byte), unfolding(tfs_spec::specs::Layout::slot_free, lists::specs::Lists::zero_at))]
+    pub fn is_free(self) -> bool
+        ensures { result ≡ slot_free self.entry.bytes.now }
+    {
+        self.inode() == 0 && self.bytes[NAME_AT] == 0
     }
-    if NAME < k {
-        return true;
-    }
-    let last = k - 1;
-    dir[s * SLOT + NAME_AT + last] == name[last]
-}
 
-// Whether the name in slot s is this one.
-pub fn slot_named(dir: &[u8], s: usize, name: &[u8]) -> bool
-    requires { (length dir.now ≡ 512) × (s < 25) }
-    ensures { result ≡ same_name (slot_name (slot dir.now s)) name.now }
-{
-    if !last_same(dir, s, name) {
-        return false;
+    // Whether the slot is used, in a volume of n blocks.
+    #[tactic(auto, unfolding(tfs_spec::specs::Layout::slot_used))]
+    pub fn is_used(self, n: usize) -> bool
+        ensures { result ≡ slot_used n self.entry.bytes.now }
+    {
+        let b = self.inode() as usize;
+        3 <= b && b < n && name_formed(self.name_field())
     }
-    let k = name_length(dir, s);
-    let a = s * SLOT + NAME_AT;
-    same(&dir[a..a + k], name)
-}
 
-// The name in slot s, padded with zeros.
-pub fn slot_name(dir: &[u8], s: usize) -> [u8; NAME]
-    requires { (length dir.now ≡ 512) × (s < 25) }
-    ensures { result ≡ pad_to 16 (slot_name (slot dir.now s)) }
-{
-    let k = name_length(dir, s);
-    let a = s * SLOT + NAME_AT;
-    let e = a + k;
-    let mut name = [0u8; NAME];
-    copy(&mut name[0..k], &dir[a..e]);
-    name
+    // The length of the name, which ends at the first zero byte.
+    pub fn name_length(self) -> usize
+        ensures { (result ≡ length (slot_name self.entry.bytes.now)) × (result ≤ 16) }
+    {
+        first_zero(self.name_field())
+    }
+
+    // The name, up to its zero.
+    pub fn name(self) -> &'a [u8]
+        ensures { result.now ≡ slot_name self.entry.bytes.now }
+    {
+        let k = self.name_length();
+        &self.bytes[NAME_AT..NAME_AT + k]
+    }
+
+    // Whether the last byte of the name stands in the slot at its place, or there is no such place.
+    #[tactic(auto, unfolding(crate::specs::Slots::last_same))]
+    fn last_same(self, name: &[u8]) -> bool
+        ensures { result ≡ last_same self.entry.bytes.now name.now }
+    {
+        let k = name.len();
+        k < 1 || NAME < k || self.bytes[NAME_AT + (k - 1)] == name[k - 1]
+    }
+
+    // Whether the slot has this name.
+    #[tactic(auto, using(crate::specs::Slots::last_not), unfolding(tfs_spec::specs::Layout::same_name))]
+    pub fn is_named(self, name: &[u8]) -> bool
+        ensures { result ≡ same_name (slot_name self.entry.bytes.now) name.now }
+    {
+        self.last_same(name) && self.name() == name
+    }
+
+    // The name, padded with zeros.
+    pub fn padded_name(self) -> [u8; NAME]
+        ensures { result ≡ pad_to 16 (slot_name self.entry.bytes.now) }
+    {
+        let k = self.name_length();
+        let e = NAME_AT + k;
+        let mut name = [0u8; NAME];
+        name[0..k].copy_from_slice(&self.bytes[NAME_AT..e]);
+        name
+    }
 }

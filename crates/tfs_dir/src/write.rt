@@ -2,7 +2,7 @@
 ghost use Rattle.std.specs.Prelude.{◌≡◌, ◌<◌, ◌≤◌, length, replicate};
 ghost use Rattle.tfs_spec.specs.Layout.{set_slot, entry};
 
-use spans::copy::{copy, zero};
+use spans::copy::zero;
 use spans::words::put32;
 use tfs_layout::{NAME_AT, SLOT};
 
@@ -14,7 +14,7 @@ pub fn fill_slot(slot: &mut [u8], inode: u32, name: &[u8])
     put32(slot, 0, inode);
     zero(&mut slot[NAME_AT..SLOT]);
     let e = NAME_AT + name.len();
-    copy(&mut slot[NAME_AT..e], name);
+    slot[NAME_AT..e].copy_from_slice(name);
 }
 
 // Enters a file in slot s.

@@ -7,11 +7,5 @@ use tfs_layout::BLOCK;
 pub fn unfetched(count: usize, k: usize, len: usize) -> bool
     ensures { result ≡ (eqb k 0 || (ltb count k || ltb len 512)) }
 {
-    if k == 0 {
-        return true;
-    }
-    if count < k {
-        return true;
-    }
-    len < BLOCK
+    k == 0 || count < k || len < BLOCK
 }

@@ -12,9 +12,7 @@ pub fn put_inode(ino: &mut [u8], size: u32, blocks: &[u32])
 {
     zero(ino);
     put32(ino, 0, size);
-    let mut i = 0;
-    while i < blocks.len() {
+    for i in 0..blocks.len() {
         put32(ino, 4 + 4 * i, blocks[i]);
-        i += 1;
     }
 }

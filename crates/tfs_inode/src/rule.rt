@@ -1,9 +1,9 @@
 // Rule 5 on an inode, in its parts: a number that the size asks for, and all that it does not ask for.
-ghost use Rattle.std.specs.Prelude.{◌≡◌, ◌<◌, ◌≤◌, length};
+ghost use Rattle.std.specs.Prelude.{◌≡◌, ◌<◌, ◌≤◌};
 ghost use Rattle.tfs_spec.specs.Layout.{need, in_range, inode_size, inode_number};
 ghost use Rattle.tfs_inode.specs.Wrong.{Spare};
 
-use crate::read::half;
+use crate::read::Inode;
 use spans::search::all_zero;
 use std::num::wrapping_sub_usize;
 use tfs_layout::BLOCK;
@@ -16,22 +16,21 @@ fn in_range(n: usize, b: usize) -> bool
     wrapping_sub_usize(b, 3) < n - 3
 }
 
-// Whether block number k is a block of a file, in a volume of n blocks.
-pub fn in_volume(ino: &[u8], k: usize, n: usize) -> bool
-    requires { (length ino.now ≡ 512) × (k < 127) × (3 ≤ n) × (n ≤ 4096) }
-    ensures { result ≡ in_range n (inode_number ino.now k) }
-{
-    if half(ino, 4 + 4 * k) != 0 {
-        return false;
+impl Inode<'_> {
+    // Whether block number k is a block of a file, in a volume of n blocks.
+    pub fn in_volume(self, k: usize, n: usize) -> bool
+        requires { (k < 127) × (3 ≤ n) × (n ≤ 4096) }
+        ensures { result ≡ in_range n (inode_number self.entry.bytes.now k) }
+    {
+        self.half(4 + 4 * k) == 0 && in_range(n, self.half(6 + 4 * k))
     }
-    in_range(n, half(ino, 6 + 4 * k))
-}
 
-// Whether a number after the `count` that the size asks for makes the inode wrong: one that is not 0.
-pub fn spare_wrong(ino: &[u8], count: usize) -> bool
-    requires { (length ino.now ≡ 512) × (count ≡ need 512 (inode_size ino.now)) × (count ≤ 127) }
-    ensures { Spare ino.now result }
-{
-    let at = 4 + 4 * count;
-    !all_zero(&ino[at..BLOCK])
+    // Whether a number after the `count` that the size asks for makes the inode wrong: one that is not 0.
+    pub fn spare_wrong(self, count: usize) -> bool
+        requires { (count ≡ need 512 (inode_size self.bytes.now)) × (count ≤ 127) }
+        ensures { Spare self.entry.bytes.now result }
+    {
+        let at = 4 + 4 * count;
+        !all_zero(&self.bytes[at..BLOCK])
+    }
 }

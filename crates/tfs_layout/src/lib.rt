@@ -1,7 +1,7 @@
 // The numbers of the layout, the blocks of an image as its parts, and in how many blocks bytes of a file lie.
 #![tactic(auto)]
 
-ghost use Rattle.std.specs.Prelude.{◌≡◌, ◌+◌, ◌*◌, ◌≤◌, min, length};
+ghost use Rattle.std.specs.Prelude.{◌≡◌, ◌+◌, ◌*◌, ◌≤◌, length};
 ghost use Rattle.tfs_spec.specs.Layout.{blocks, block, view};
 ghost use Rattle.tfs_spec.specs.Requests.{blocks_met};
 
@@ -34,25 +34,16 @@ pub const FILE_BLOCKS: usize = 1 + NUMBERS;
 // The size of the largest file.
 pub const MAX_SIZE: u32 = (NUMBERS * BLOCK) as u32;
 
-// The smaller of two numbers.
-pub fn smaller(a: usize, b: usize) -> usize
-    ensures { result ≡ min a b }
-{
-    if a < b { a } else { b }
-}
-
 // How many blocks the volume has: what the image holds, at most one for each bit of the map.
+#[tactic(auto, unfolding(tfs_spec::specs::Layout::blocks))]
 pub fn blocks(image: &[u8]) -> usize
     ensures { (result ≡ blocks 512 image.now) × (result ≤ 4096) }
 {
-    let whole = image.len() / BLOCK;
-    if whole < MAX_BLOCKS {
-        return whole;
-    }
-    MAX_BLOCKS
+    (image.len() / BLOCK).min(MAX_BLOCKS)
 }
 
 // In how many blocks of a file so many bytes from the offset on lie.
+#[tactic(auto, unfolding(tfs_spec::specs::Requests::blocks_met))]
 pub fn blocks_met(offset: u32, count: u32) -> u32
     ensures { result ≡ blocks_met 512 offset count }
 {
@@ -75,6 +66,7 @@ pub fn block_of(image: &[u8], b: usize) -> &[u8]
 }
 
 // Block 0, the header.
+#[tactic(auto, unfolding(tfs_spec::specs::Layout::view, tfs_spec::specs::Layout::view_n))]
 pub fn head_of(image: &[u8]) -> &[u8]
     requires { 1536 ≤ length image.now }
     ensures { (result.now ≡ (view 512 image.now).head) × (length result.now ≡ 512) }
@@ -83,6 +75,7 @@ pub fn head_of(image: &[u8]) -> &[u8]
 }
 
 // Block 1, the map.
+#[tactic(auto, unfolding(tfs_spec::specs::Layout::view, tfs_spec::specs::Layout::view_n))]
 pub fn map_of(image: &[u8]) -> &[u8]
     requires { 1536 ≤ length image.now }
     ensures { (result.now ≡ (view 512 image.now).map) × (length result.now ≡ 512) }
@@ -91,6 +84,7 @@ pub fn map_of(image: &[u8]) -> &[u8]
 }
 
 // Block 2, the directory.
+#[tactic(auto, unfolding(tfs_spec::specs::Layout::view, tfs_spec::specs::Layout::view_n))]
 pub fn dir_of(image: &[u8]) -> &[u8]
     requires { 1536 ≤ length image.now }
     ensures { (result.now ≡ (view 512 image.now).dir) × (length result.now ≡ 512) }

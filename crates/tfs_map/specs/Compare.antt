@@ -31,21 +31,3 @@ bits-alike a b k e =
 pub words-alike : (a b : List ℕ) (w r : ℕ) → r ≡ least (word_differs a b) w → Below (bit_differs a b) (32 * r)
 words-alike a b w r e k h =
     bits-alike a b k (no_false (word_differs a b (k / 32)) (least-below (word_differs a b) w (k / 32) (omega arith)))
-
--- ---- one bit by two tests
-module _ (a b : List ℕ) (k : ℕ) where
-  pub differs-on : map_bit a k ≡ true → not (map_bit b k) ≡ bit_differs a b k
-  unfolding bit_differs
-  differs-on e = rw e (on (map_bit b k))
-    where
-      on : (t : Bool) → not t ≡ not (beq true t)
-      on true = refl
-      on false = refl
-
-  pub differs-off : map_bit a k ≡ false → map_bit b k ≡ bit_differs a b k
-  unfolding bit_differs
-  differs-off e = rw e (off (map_bit b k))
-    where
-      off : (t : Bool) → t ≡ not (beq false t)
-      off true = refl
-      off false = refl

@@ -1,8 +1,8 @@
 // One bit of the map.
-ghost use Rattle.std.specs.Prelude.{◌≡◌, ◌%◌, ◌≤◌, ◌<◌, length};
+ghost use Rattle.std.specs.Prelude.{◌≡◌, ◌%◌, ◌<◌, length, cond};
 ghost use Rattle.tfs_spec.specs.Layout.{map_byte, map_bit, set_bit};
 
-use spans::bits::{bit_of, with_one, with_zero};
+use spans::bits::{bit_of, with_bit};
 
 // The index of the byte that holds bit b.
 fn map_byte(b: usize) -> usize
@@ -20,6 +20,7 @@ fn map_place(b: usize) -> u32
 }
 
 // Whether bit b is 1.
+#[tactic(auto, unfolding(tfs_spec::specs::Layout::map_bit))]
 pub fn map_bit(map: &[u8], b: usize) -> bool
     requires { (length map.now ≡ 512) × (b < 4096) }
     ensures { result ≡ map_bit map.now b }
@@ -28,32 +29,20 @@ pub fn map_bit(map: &[u8], b: usize) -> bool
     bit_of(map[at], map_place(b)) == 1
 }
 
+// Makes bit b 1, or 0.
+#[tactic(auto, unfolding(tfs_spec::specs::Layout::set_bit))]
+pub fn put_bit(map: &mut [u8], b: usize, one: bool)
+    requires { (length map.old ≡ 512) × (b < 4096) }
+    ensures { map.new ≡ set_bit map.old b (cond one 1 0) }
+{
+    let at = map_byte(b);
+    map[at] = with_bit(map[at], map_place(b), one);
+}
+
 // Makes bit b 1.
 pub fn set_bit(map: &mut [u8], b: usize)
     requires { (length map.old ≡ 512) × (b < 4096) }
     ensures { map.new ≡ set_bit map.old b 1 }
 {
-    let at = map_byte(b);
-    map[at] = with_one(map[at], map_place(b));
-}
-
-// Makes bit b 0.
-fn clear_bit(map: &mut [u8], b: usize)
-    requires { (length map.old ≡ 512) × (b < 4096) }
-    ensures { map.new ≡ set_bit map.old b 0 }
-{
-    let at = map_byte(b);
-    map[at] = with_zero(map[at], map_place(b));
-}
-
-// Makes bit b 1 or 0.
-pub fn put_bit(map: &mut [u8], b: usize, v: u32)
-    requires { (length map.old ≡ 512) × (b < 4096) × (v ≤ 1) }
-    ensures { map.new ≡ set_bit map.old b v }
-{
-    if v == 1 {
-        set_bit(map, b);
-        return;
-    }
-    clear_bit(map, b);
+    put_bit(map, b, true);
 }

@@ -14,22 +14,16 @@ pub fn free_count(map: &[u8], n: usize) -> usize
     requires { (length map.now ≡ 512) × (n ≤ 4096) }
     ensures { (result ≡ free_below map.now n) × (result ≤ n) }
 {
-    let ones = ones_below(map, n);
-    n - ones
+    n - ones_below(map, n)
 }
 
 // Whether b begins a word below n of reserved blocks only.
+#[tactic(auto, unfolding(crate::specs::Words::word_held))]
 fn word_held(map: &[u8], b: usize, n: usize) -> bool
     requires { (length map.now ≡ 512) × (b < n) × (n ≤ 4096) }
     ensures { result ≡ word_held map.now b n }
 {
-    if b % 32 != 0 {
-        return false;
-    }
-    if n < b + 32 {
-        return false;
-    }
-    word_is(map, b / 32, 255)
+    b % 32 == 0 && b + 32 <= n && word_is(map, b / 32, 255)
 }
 
 // How far a search for a free block may go from b on: over a reserved word, over a reserved block, or not.
@@ -52,6 +46,7 @@ pub fn next_free(map: &[u8], from: usize, n: usize) -> usize
     ensures { (result ≡ next_free map.now from (n - from)) × (result ≤ n) }
 {
     let mut b = from;
+    // `while`, as each step goes on as far as held_from tells, which no range has.
     while b < n {
         let held = held_from(map, b, n);
         if held == 0 {
@@ -68,12 +63,10 @@ fn pick_into(map: &[u8], n: usize, want: usize, out: &mut [u32])
     ensures { out.new ≡ take want (free_from map.now 0 n) ++ drop want out.old }
 {
     let mut from = 0;
-    let mut i = 0;
-    while i < want {
+    for i in 0..want {
         let b = next_free(map, from, n);
         out[i] = b as u32;
         from = b + 1;
-        i += 1;
     }
 }
 

@@ -149,29 +149,3 @@ pub length-one : (map owned : List ℕ) (k : ℕ) → length (one_cleared map ow
 unfolding one_cleared
 length-one map owned k =
     by-test (is_extra map owned k) (λ t. ap length (cond_yes (is_extra map owned k) _ _ t) ∙ length-set_bit map k 0) (λ t. ap length (cond_no (is_extra map owned k) _ _ t))
-
--- ---- one bit cleared, or not
-module _ (map owned : List ℕ) (k : ℕ) where
-  pub one-off : is_extra map owned k ≡ false → map ≡ one_cleared map owned k
-  unfolding one_cleared
-  one-off e = ap (λ (x : Bool). cond x (set_bit map k 0) map) (sym e)
-
-  pub one_on : is_extra map owned k ≡ true → set_bit map k 0 ≡ one_cleared map owned k
-  unfolding one_cleared
-  one_on e = ap (λ (x : Bool). cond x (set_bit map k 0) map) (sym e)
-
-  pub extra-on : map_bit map k ≡ true → not (map_bit owned k) ≡ is_extra map owned k
-  unfolding is_extra
-  extra-on e = ap (λ (x : Bool). x && not (map_bit owned k)) (sym e)
-
-  pub extra-off : (t : Bool) → t ≡ map_bit map k → t ≡ false → t ≡ is_extra map owned k
-  unfolding is_extra
-  extra-off t e f = f ∙ ap (λ (x : Bool). x && not (map_bit owned k)) (sym f) ∙ ap (λ (x : Bool). x && not (map_bit owned k)) e
-
-pub not-true : (t : Bool) {s : Bool} → not t ≡ true → t ≡ s → s ≡ false
-not-true true e f = cc
-not-true false e f = sym f
-
-pub not-false : (t : Bool) {s : Bool} → not t ≡ false → t ≡ s → s ≡ true
-not-false true e f = sym f
-not-false false e f = cc

@@ -1,3 +1,4 @@
+pub mod Search
 pub mod Missing
 pub mod Extra
 pub mod Mended

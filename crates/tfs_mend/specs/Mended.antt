@@ -93,8 +93,14 @@ refusal : (img : List ℕ) (num p : ℕ) → check 512 (mended 512 img) ≡ brok
 refusal img num p c = (sym c, sym (ap (λ (o : Outcome). o.image) (mend-is 512 img (broken num p) c)))
 
 -- ---- what mend does, by what was found: one of rules 1 to 6 is broken
-pub mend-broken : (img : List ℕ) (num p : ℕ) → claims_verdict img ≡ broken num p → (broken num p ≡ check 512 (mended 512 img)) × (img ≡ (mend 512 img).image)
-mend-broken img num p e = refusal img num p (then_map img (broken num p) e)
+broken-mended : (img : List ℕ) (num p : ℕ) → broken num p ≡ claims_verdict img → (broken num p ≡ check 512 (mended 512 img)) × (img ≡ (mend 512 img).image)
+broken-mended img num p e = refusal img num p (then_map img (broken num p) (sym e))
+
+pub broken_check : (img : List ℕ) (num p : ℕ) → broken num p ≡ claims_verdict img → check 512 (mended 512 img) ≡ broken num p
+broken_check img num p e = sym (broken-mended img num p e).0
+
+pub broken_image : (img : List ℕ) (num p : ℕ) → broken num p ≡ claims_verdict img → (mend 512 img).image ≡ img
+broken_image img num p e = sym (broken-mended img num p e).1
 
 -- or they are kept, and rule 7 decides, of which a set bit that nobody claims breaks nothing
 module _ (img : List ℕ) (kept : claims_verdict img ≡ consistent) (owned : List ℕ) (is : owned ≡ set_bits (format_map 512) 1 (claims 512 (view 512 img))) where

@@ -81,13 +81,3 @@ bytes-held map owned n m e none k h =
     let inside : map_byte k < m = omega arith in
     byte-held map owned k
     (ap₂ (λ (x y : ℕ). not (eqb (bit_and x y) x)) (sym (get_or-take m owned (map_byte k) 0 inside)) (sym (get_or-take m map (map_byte k) 0 inside)) ∙ none (map_byte k) inside)
-
--- ---- one bit by two tests
-module _ (map owned : List ℕ) (k : ℕ) where
-  pub missing-on : map_bit map k ≡ false → map_bit owned k ≡ is_missing map owned k
-  unfolding is_missing
-  missing-on e = ap (λ (x : Bool). not x && map_bit owned k) (sym e)
-
-  pub missing-off : (t : Bool) → t ≡ map_bit map k → not t ≡ false → not t ≡ is_missing map owned k
-  unfolding is_missing
-  missing-off t e f = f ∙ ap (λ (x : Bool). x && map_bit owned k) (sym f) ∙ ap (λ (x : Bool). not x && map_bit owned k) e

@@ -1,4 +1,2 @@
 pub mod Told
 pub mod Agree
-pub mod Runs
-pub mod Records

@@ -1,9 +1,10 @@
 -- What replay comes to, in the rules' terms.
+use Rattle.std.specs.Prelude.{ℕ, Result, Ok, Err}
 use Rattle.tfs_spec.specs.Replays as rules
-use Rattle.tfs_replay.specs.declared.Replayed.{Replayed}
-use Rattle.tfs_replay.specs.declared.Replayed.TheVariants.{All, Malformed, Differs}
+use Rattle.tfs_replay.specs.declared.Stop.{Stop}
+use Rattle.tfs_replay.specs.declared.Stop.TheVariants.{Malformed, Differs}
 
-abbrev pub replayed_told : Replayed → rules.Replayed
-replayed_told (All n) = rules.replayed n
-replayed_told (Malformed k) = rules.malformed_at k
-replayed_told (Differs k) = rules.differs_at k
+abbrev pub replayed_told : Result ℕ Stop → rules.Replayed
+replayed_told (Ok n) = rules.replayed n
+replayed_told (Err (Malformed k)) = rules.malformed_at k
+replayed_told (Err (Differs k)) = rules.differs_at k

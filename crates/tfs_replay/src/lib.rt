@@ -11,33 +11,32 @@ ghost use Rattle.tfs_spec.specs.Replays.{replay_on};
 ghost use Rattle.tfs_replay.specs.Told.{replayed_told};
 
 use crate::run::run_record;
-use tfs_trace::{Cursor, RecordRead};
+use tfs_trace::Cursor;
 
-// What replay comes to: all records replayed, so many; or the number, from 1, of the record at which it stops.
-#[derive(Clone, Copy)]
-pub enum Replayed {
-    All(usize),
+// What stops a replay: the record, from 1, that is malformed, or whose request, which has been run, answers otherwise than expected.
+#[derive(Clone, Copy, Debug, PartialEq, Eq)]
+pub enum Stop {
     Malformed(usize),
     Differs(usize),
 }
 
-// Replays the records of the trace up to its end, a malformed record, or an answer that differs, whose request has been run.
-pub fn replay_records(image: &mut [u8], trace: &[u8]) -> Replayed
+// Replays the records of the trace up to its end, and counts them.
+pub fn replay_records(image: &mut [u8], trace: &[u8]) -> Result<usize, Stop>
     requires { check 512 image.old ≡ consistent }
-    ensures { (replayed_told result ≡ (replay_on 512 image.old 0 (read_trace trace.now)).result) × (image.new ≡ (replay_on 512 image.old 0 (read_trace trace.now)).image) }
+    ensures result { replayed_told result ≡ (replay_on 512 image.old 0 (read_trace trace.now)).result }
+    ensures image { image.new ≡ (replay_on 512 image.old 0 (read_trace trace.now)).image }
 {
-    let mut at = 0;
+    let mut cursor = Cursor { trace, at: 0 };
     let mut done = 0;
-    while at < trace.len() {
-        let cursor = Cursor { at: at };
-        let RecordRead::Record(record, next) = cursor.record(trace) else {
-            return Replayed::Malformed(done + 1);
+    while cursor.at < trace.len() {
+        let Some((record, next)) = cursor.record() else {
+            return Err(Stop::Malformed(done + 1));
         };
         if !run_record(image, trace, record) {
-            return Replayed::Differs(done + 1);
+            return Err(Stop::Differs(done + 1));
         }
-        at = next.at;
+        cursor = next;
         done += 1;
     }
-    Replayed::All(done)
+    Ok(done)
 }

@@ -6,27 +6,19 @@ ghost use Rattle.tfs_runs.specs.Blank.{AllInside, Neighbours};
 
 use tfs_layout::BLOCK;
 
-// x, in more bits.
-fn wide(x: u32) -> usize
-    ensures { (result ≡ x) × (result < 4294967296) }
-{
-    x as usize
-}
-
 // How many listed blocks, from place i of the list on, stand one after another in the image.
 fn neighbours(blocks: &[u32], i: usize) -> usize
     requires { i < length blocks.now }
     ensures { (0 < result) × (i + result ≤ length blocks.now) × Neighbours blocks.now i result }
 {
-    let first = wide(blocks[i]);
-    let mut n = 1;
-    while i + n < blocks.len() {
-        if wide(blocks[i + n]) != first + n {
+    let first = blocks[i] as usize;
+    let most = blocks.len() - i;
+    for n in 1..most {
+        if blocks[i + n] as usize != first + n {
             return n;
         }
-        n += 1;
     }
-    n
+    most
 }
 
 // Makes n blocks zero, from block b on.
@@ -45,10 +37,11 @@ pub fn zero_blocks(image: &mut [u8], blocks: &[u32])
     ensures { image.new ≡ store_all 512 image.old (zero_stores 512 blocks.now) }
 {
     let mut i = 0;
+    // `while`, as each step goes on by as many blocks as are neighbours, which no range has.
     while i < blocks.len() {
-        let b = blocks[i];
+        let b = blocks[i] as usize;
         let n = neighbours(blocks, i);
-        zero_span(image, wide(b), n);
+        zero_span(image, b, n);
         i += n;
     }
 }

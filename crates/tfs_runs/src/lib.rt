@@ -2,6 +2,7 @@
 #![tactic(auto)]
 
 mod run; // run.rt: where a run lies and how long it is
+pub mod copy; // copy.rt: spans copied
 pub mod read; // read.rt: from the blocks to a buffer
 pub mod write; // write.rt: from a buffer to the blocks
 pub mod blank; // blank.rt: whole blocks made zero

@@ -7,10 +7,13 @@ ghost use Rattle.tfs_steps.specs.Erase.{erase_stores};
 use crate::low::{mark, vacate};
 
 // Makes slot s and the blocks free.
+#[tactic(auto, using(crate::specs::Erase::erased))]
 pub fn erase_file(image: &mut [u8], s: usize, blocks: &[u32])
-    requires { (1536 ≤ length image.old) × (s < 25) × Under 4096 blocks.now }
+    requires image { 1536 ≤ length image.old }
+    requires slot { s < 25 }
+    requires blocks { Under 4096 blocks.now }
     ensures { image.new ≡ store_all 512 image.old (erase_stores 512 image.old s blocks.now) }
 {
     vacate(image, s);
-    mark(image, blocks, 0);
+    mark(image, blocks, false);
 }

@@ -1,18 +1,16 @@
 // Free bytes on a consistent volume.
 ghost use Rattle.std.specs.Prelude.{◌≡◌};
 ghost use Rattle.tfs_spec.specs.Check.{consistent, check};
-ghost use Rattle.tfs_spec.specs.Requests.{free_step};
-ghost use Rattle.tfs_steps.specs.Told.{step_told, StepFits};
+ghost use Rattle.tfs_spec.specs.Requests.{value, free_step};
 
-use crate::Step;
 use tfs_layout::BLOCK;
 use tfs_map::volume::free_blocks;
 
 // The bytes of all free blocks.
-pub fn free_step(image: &[u8]) -> Step
+#[tactic(auto, using(crate::specs::Ready::long))]
+pub fn free_step(image: &[u8]) -> u32
     requires { check 512 image.now ≡ consistent }
-    ensures { (step_told result ≡ free_step 512 image.now) × StepFits result }
+    ensures { value result ≡ free_step 512 image.now }
 {
-    let free = free_blocks(image);
-    Step::Granted((BLOCK * free) as u32)
+    (BLOCK * free_blocks(image)) as u32
 }

@@ -6,10 +6,3 @@ mod low; // low.rt: the map and the directory changed in place
 pub mod place; // place.rt: a file placed
 pub mod erase; // erase.rt: a file erased
 pub mod free; // free.rt: free bytes
-
-// What create, remove, free bytes and the stores answer once the check is passed: granted with a number (0 where there is no result), or refused by its number.
-#[derive(Clone, Copy)]
-pub enum Step {
-    Granted(u32),
-    Refused(u32),
-}

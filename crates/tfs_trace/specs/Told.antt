@@ -1,5 +1,5 @@
--- What reading gives, in the rules' terms, and where the cursor and the spans lie.
-use Rattle.std.specs.Prelude.{◌≡◌, ℕ, ◌+◌, ◌≤◌, ◌<◌, List, length}
+-- What reading gives, in the rules' terms, and where the spans lie.
+use Rattle.std.specs.Prelude.{◌≡◌, ℕ, ◌+◌, ◌≤◌, List, length, Option, Some, None}
 use Rattle.lists.specs.Lists.{part}
 use Rattle.tfs_spec.specs.Traces as rules
 use Rattle.tfs_trace.specs.declared.Cursor.{Cursor}
@@ -9,16 +9,6 @@ use Rattle.tfs_trace.specs.declared.Call.TheVariants as call
 use Rattle.tfs_trace.specs.declared.Expected.{Expected}
 use Rattle.tfs_trace.specs.declared.Expected.TheVariants as expected
 use Rattle.tfs_trace.specs.declared.Record.{Record}
-use Rattle.tfs_trace.specs.declared.NumberRead.{NumberRead}
-use Rattle.tfs_trace.specs.declared.NumberRead.TheVariants as number
-use Rattle.tfs_trace.specs.declared.StringRead.{StringRead}
-use Rattle.tfs_trace.specs.declared.StringRead.TheVariants as string
-use Rattle.tfs_trace.specs.declared.CallRead.{CallRead}
-use Rattle.tfs_trace.specs.declared.CallRead.TheVariants as call_read
-use Rattle.tfs_trace.specs.declared.ExpectedRead.{ExpectedRead}
-use Rattle.tfs_trace.specs.declared.ExpectedRead.TheVariants as expected_read
-use Rattle.tfs_trace.specs.declared.RecordRead.{RecordRead}
-use Rattle.tfs_trace.specs.declared.RecordRead.TheVariants as record_read
 
 -- the bytes of a span of the trace t
 abbrev pub span_of : List ℕ → Span → List ℕ
@@ -40,31 +30,20 @@ expected_of t (expected.Refusal n) = rules.refusal n
 abbrev pub record_of : List ℕ → Record → rules.Record
 record_of t r = rules.record_of (call_of t r.call) (expected_of t r.expected)
 
-abbrev pub number_told : NumberRead → rules.Parsed ℕ
-number_told (number.Number n c) = rules.parsed n c.at
-number_told number.Malformed = rules.malformed
+-- what was read, with the cursor behind it
+abbrev pub told : {A B : Type 0} → (A → B) → Option (A × Cursor) → rules.Parsed B
+told f (Some read) = rules.parsed (f read.0) read.1.at
+told f None = rules.malformed
 
-abbrev pub string_told : List ℕ → StringRead → rules.Parsed (List ℕ)
-string_told t (string.String s c) = rules.parsed (span_of t s) c.at
-string_told t string.Malformed = rules.malformed
+abbrev pub as_is : ℕ → ℕ
+as_is n = n
 
-abbrev pub call_told : List ℕ → CallRead → rules.Parsed rules.Call
-call_told t (call_read.Call x c) = rules.parsed (call_of t x) c.at
-call_told t call_read.Malformed = rules.malformed
-
-abbrev pub expected_told : List ℕ → ExpectedRead → rules.Parsed rules.Expected
-expected_told t (expected_read.Expected e c) = rules.parsed (expected_of t e) c.at
-expected_told t expected_read.Malformed = rules.malformed
-
-abbrev pub record_told : List ℕ → RecordRead → rules.Parsed rules.Record
-record_told t (record_read.Record r c) = rules.parsed (record_of t r) c.at
-record_told t record_read.Malformed = rules.malformed
+-- a number with the position behind it
+abbrev pub number_told : Option (ℕ × ℕ) → rules.Parsed ℕ
+number_told (Some read) = rules.parsed read.0 read.1
+number_told None = rules.malformed
 
 -- ---- where they lie
--- the cursor has moved on, in the trace
-abbrev pub Forward : List ℕ → ℕ → Cursor → Type 0
-Forward t at c = (at < c.at) × (c.at ≤ length t)
-
 abbrev pub Inside : List ℕ → Span → Type 0
 Inside t s = s.at + s.len ≤ length t
 
@@ -80,10 +59,6 @@ ExpectedInside t expected.Nothing = Unit {0}
 ExpectedInside t (expected.Bytes bs) = Inside t bs
 ExpectedInside t (expected.Amount n) = Unit {0}
 ExpectedInside t (expected.Refusal n) = Unit {0}
-
-abbrev pub NumberFits : List ℕ → ℕ → NumberRead → Type 0
-NumberFits t at (number.Number n c) = Forward t at c
-NumberFits t at number.Malformed = Unit {0}
 
 -- the length of a span stands at a position, and its bytes behind that
 abbrev pub LengthAt : List ℕ → ℕ → Span → Type 0
@@ -114,23 +89,17 @@ pub record RecordLies (t : List ℕ) (at : ℕ) (r : Record) (end : ℕ) : Type 
   pub call_lies : CallLies t (at + 1) r.call middle
   pub expected-lies : ExpectedLies r.expected end
 
-abbrev pub StringFits : List ℕ → ℕ → StringRead → Type 0
-StringFits t at (string.String s c) = Forward t at c × Inside t s × LengthAt t at s × EndsAt s c.at
-StringFits t at string.Malformed = Unit {0}
+-- a string at a position, up to another
+abbrev pub StringLies : List ℕ → ℕ → Span → ℕ → Type 0
+StringLies t at s end = Inside t s × LengthAt t at s × EndsAt s end
 
--- a call at a position, whose arguments stand from another on
-abbrev pub CallFits : List ℕ → ℕ → ℕ → CallRead → Type 0
-CallFits t at from (call_read.Call x c) = Forward t at c × CallInside t x × CallLies t from x c.at
-CallFits t at from call_read.Malformed = Unit {0}
+-- a call whose arguments stand at a position
+abbrev pub CallFits : List ℕ → ℕ → Call → ℕ → Type 0
+CallFits t from x end = CallInside t x × CallLies t from x end
 
 -- of an expected answer also that it is one of its request
-abbrev pub ExpectedFits : List ℕ → ℕ → Call → ExpectedRead → Type 0
-ExpectedFits t at x (expected_read.Expected e c) = Forward t at c × ExpectedInside t e × rules.Fitting (call_of t x) (expected_of t e) × ExpectedLies e c.at
-ExpectedFits t at x expected_read.Malformed = Unit {0}
+abbrev pub ExpectedFits : List ℕ → Call → Expected → ℕ → Type 0
+ExpectedFits t x e end = ExpectedInside t e × rules.Fitting (call_of t x) (expected_of t e) × ExpectedLies e end
 
 abbrev pub InsideRecord : List ℕ → Record → Type 0
 InsideRecord t r = CallInside t r.call × ExpectedInside t r.expected × rules.Fitting (call_of t r.call) (expected_of t r.expected)
-
-abbrev pub RecordFits : List ℕ → ℕ → RecordRead → Type 0
-RecordFits t at (record_read.Record r c) = Forward t at c × InsideRecord t r × RecordLies t at r c.at
-RecordFits t at record_read.Malformed = Unit {0}

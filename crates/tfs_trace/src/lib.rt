@@ -1,18 +1,16 @@
 // Reads the records of a trace of TFS requests. Names and bytes that are read stay parts of the lent trace.
 #![tactic(auto)]
 
+mod kind; // kind.rt: the kinds of requests by their numbers
 mod number; // number.rt: a number in groups of seven bits
 mod read; // read.rt: the fields of a record
 
-ghost use Rattle.std.specs.Prelude.{◌≡◌};
+ghost use Rattle.std.specs.Prelude.{◌≡◌, IfSome};
 ghost use Rattle.tfs_spec.specs.Traces.{read_number, read_string, read_record};
-ghost use Rattle.tfs_trace.specs.Told.{number_told, NumberFits, string_told, StringFits, record_told, RecordFits};
+ghost use Rattle.tfs_facts.specs.Forward.{Forward};
+ghost use Rattle.tfs_trace.specs.Told.{as_is, span_of, record_of, told, StringLies, InsideRecord, RecordLies};
 
-// A position in a trace.
-#[derive(Clone, Copy)]
-pub struct Cursor {
-    pub at: usize,
-}
+use crate::number::number_at;
 
 // Bytes of a trace: so many from a position on.
 #[derive(Clone, Copy)]
@@ -24,14 +22,24 @@ pub struct Span {
 // What a record asks.
 #[derive(Clone, Copy)]
 pub enum Call {
-    // name and size
-    Create(Span, u32),
-    // name
-    Remove(Span),
-    // name, offset and the buffer's length
-    Read(Span, u32, u32),
-    // name, offset and bytes
-    Write(Span, u32, Span),
+    Create {
+        name: Span,
+        size: u32,
+    },
+    Remove {
+        name: Span,
+    },
+    // with the buffer's length
+    Read {
+        name: Span,
+        offset: u32,
+        len: u32,
+    },
+    Write {
+        name: Span,
+        offset: u32,
+        bytes: Span,
+    },
     Free,
 }
 
@@ -52,69 +60,52 @@ pub struct Record {
     pub expected: Expected,
 }
 
-// What reading gives: what stands at the cursor, with the cursor behind it.
+// A position in a trace. It is handed on by value: what is read comes with the position behind it, and what is malformed is None.
 #[derive(Clone, Copy)]
-pub enum NumberRead {
-    Number(u32, Cursor),
-    Malformed,
+pub struct Cursor<'a> {
+    pub trace: &'a [u8],
+    pub at: usize,
 }
 
-#[derive(Clone, Copy)]
-pub enum StringRead {
-    String(Span, Cursor),
-    Malformed,
-}
-
-#[derive(Clone, Copy)]
-pub enum CallRead {
-    Call(Call, Cursor),
-    Malformed,
-}
-
-#[derive(Clone, Copy)]
-pub enum ExpectedRead {
-    Expected(Expected, Cursor),
-    Malformed,
-}
-
-#[derive(Clone, Copy)]
-pub enum RecordRead {
-    Record(Record, Cursor),
-    Malformed,
-}
-
-impl Cursor {
+impl<'a> Cursor<'a> {
     // The number at the cursor.
-    pub fn number(self, trace: &[u8]) -> NumberRead
-        ensures { (number_told result ≡ read_number trace.now self.at) × NumberFits trace.now self.at result }
+    pub fn number(self) -> Option<(u32, Cursor<'a>)>
+        ensures value { told as_is result ≡ read_number self.entry.trace.now self.entry.at }
+        ensures onward { IfSome result (λ read. Forward self.entry.trace.now self.entry.at read.1.at) }
+        ensures trace { IfSome result (λ read. read.1.trace ≡ self.entry.trace) }
     {
-        let at = self.at;
-        number::number_at(trace, at)
+        let (number, next) = number_at(self.trace, self.at)?;
+        Some((number, Cursor { at: next, ..self }))
     }
 
     // The byte string at the cursor.
-    pub fn string(self, trace: &[u8]) -> StringRead
-        ensures { (string_told trace.now result ≡ read_string trace.now self.at) × StringFits trace.now self.at result }
+    #[tactic(auto, unfolding(tfs_spec::specs::Traces::read_string))]
+    pub fn string(self) -> Option<(Span, Cursor<'a>)>
+        ensures value { told (span_of self.entry.trace.now) result ≡ read_string self.entry.trace.now self.entry.at }
+        ensures onward { IfSome result (λ read. Forward self.entry.trace.now self.entry.at read.1.at) }
+        ensures lies { IfSome result (λ read. StringLies self.entry.trace.now self.entry.at read.0 read.1.at) }
+        ensures trace { IfSome result (λ read. read.1.trace ≡ self.entry.trace) }
     {
-        let NumberRead::Number(len, next) = self.number(trace) else {
-            return StringRead::Malformed;
-        };
-        let from = next.at;
-        read::span_at(trace, from, len)
+        let (len, from) = number_at(self.trace, self.at)?;
+        let len = len as usize;
+        let end = from + len;
+        if self.trace.len() < end {
+            return None;
+        }
+        Some((Span { at: from, len }, Cursor { at: end, ..self }))
     }
 
     // The record at the cursor.
-    pub fn record(self, trace: &[u8]) -> RecordRead
-        ensures { (record_told trace.now result ≡ read_record trace.now self.at) × RecordFits trace.now self.at result }
+    #[tactic(auto, unfolding(tfs_spec::specs::Traces::read_record))]
+    pub fn record(self) -> Option<(Record, Cursor<'a>)>
+        ensures value { told (record_of self.entry.trace.now) result ≡ read_record self.entry.trace.now self.entry.at }
+        ensures onward { IfSome result (λ read. Forward self.entry.trace.now self.entry.at read.1.at) }
+        ensures inside { IfSome result (λ read. InsideRecord self.entry.trace.now read.0) }
+        ensures lies { IfSome result (λ read. RecordLies self.entry.trace.now self.entry.at read.0 read.1.at) }
+        ensures trace { IfSome result (λ read. read.1.trace ≡ self.entry.trace) }
     {
-        let at = self.at;
-        let CallRead::Call(call, answer) = read::call_at(trace, at) else {
-            return RecordRead::Malformed;
-        };
-        let from = answer.at;
-        let ExpectedRead::Expected(expected, next) = read::expected_at(trace, from, call) else {
-            return RecordRead::Malformed;
-        };
-        RecordRead::Record(Record { call, expected }, next)
+        let (call, middle) = self.call()?;
+        let (expected, next) = middle.expected(call)?;
+        Some((Record { call, expected }, next))
     }
 }

@@ -1,133 +1,115 @@
 // The fields of a record.
-ghost use Rattle.std.specs.Prelude.{◌≡◌, ◌+◌, ◌≤◌, length};
+ghost use Rattle.std.specs.Prelude.{◌≡◌, ◌+◌, IfSome};
 ghost use Rattle.tfs_spec.specs.Traces.{read_create, read_remove, read_read, read_write, read_call, read_expected};
-ghost use Rattle.tfs_trace.specs.Told.{call_told, CallFits, call_of, expected_told, ExpectedFits};
-ghost use Rattle.tfs_trace.specs.Fields.{span_read, amount_of, bytes_of};
+ghost use Rattle.tfs_facts.specs.Forward.{Forward};
+ghost use Rattle.tfs_trace.specs.Told.{call_of, expected_of, told, CallFits, ExpectedFits};
 
-use crate::{Call, CallRead, Cursor, Expected, ExpectedRead, NumberRead, Span, StringRead};
+use crate::kind::Kind;
+use crate::{Call, Cursor, Expected};
 
-// The string of a length that starts at a position.
-pub fn span_at(trace: &[u8], from: usize, len: u32) -> StringRead
-    requires { from ≤ length trace.now }
-    ensures { result ≡ span_read (length trace.now) from len }
-{
-    let len = len as usize;
-    let end = from + len;
-    if trace.len() < end {
-        return StringRead::Malformed;
+impl<'a> Cursor<'a> {
+    #[tactic(auto, unfolding(tfs_spec::specs::Traces::read_create))]
+    fn create(self) -> Option<(Call, Cursor<'a>)>
+        ensures value { told (call_of self.entry.trace.now) result ≡ read_create self.entry.trace.now self.entry.at }
+        ensures onward { IfSome result (λ read. Forward self.entry.trace.now self.entry.at read.1.at) }
+        ensures fits { IfSome result (λ read. CallFits self.entry.trace.now self.entry.at read.0 read.1.at) }
+        ensures trace { IfSome result (λ read. read.1.trace ≡ self.entry.trace) }
+    {
+        let (name, cursor) = self.string()?;
+        let (size, cursor) = cursor.number()?;
+        Some((Call::Create { name, size }, cursor))
     }
-    StringRead::String(Span { at: from, len }, Cursor { at: end })
-}
 
-// Name and size.
-fn create(trace: &[u8], from: Cursor) -> CallRead
-    ensures { (call_told trace.now result ≡ read_create trace.now from.at) × CallFits trace.now from.at from.at result }
-{
-    let StringRead::String(name, a) = from.string(trace) else {
-        return CallRead::Malformed;
-    };
-    let NumberRead::Number(size, b) = a.number(trace) else {
-        return CallRead::Malformed;
-    };
-    CallRead::Call(Call::Create(name, size), b)
-}
-
-// Name.
-fn remove(trace: &[u8], from: Cursor) -> CallRead
-    ensures { (call_told trace.now result ≡ read_remove trace.now from.at) × CallFits trace.now from.at from.at result }
-{
-    let StringRead::String(name, a) = from.string(trace) else {
-        return CallRead::Malformed;
-    };
-    CallRead::Call(Call::Remove(name), a)
-}
-
-// Name, offset and the buffer's length.
-fn read(trace: &[u8], from: Cursor) -> CallRead
-    ensures { (call_told trace.now result ≡ read_read trace.now from.at) × CallFits trace.now from.at from.at result }
-{
-    let StringRead::String(name, a) = from.string(trace) else {
-        return CallRead::Malformed;
-    };
-    let NumberRead::Number(offset, b) = a.number(trace) else {
-        return CallRead::Malformed;
-    };
-    let NumberRead::Number(len, c) = b.number(trace) else {
-        return CallRead::Malformed;
-    };
-    CallRead::Call(Call::Read(name, offset, len), c)
-}
-
-// Name, offset and bytes.
-fn write(trace: &[u8], from: Cursor) -> CallRead
-    ensures { (call_told trace.now result ≡ read_write trace.now from.at) × CallFits trace.now from.at from.at result }
-{
-    let StringRead::String(name, a) = from.string(trace) else {
-        return CallRead::Malformed;
-    };
-    let NumberRead::Number(offset, b) = a.number(trace) else {
-        return CallRead::Malformed;
-    };
-    let StringRead::String(bytes, c) = b.string(trace) else {
-        return CallRead::Malformed;
-    };
-    CallRead::Call(Call::Write(name, offset, bytes), c)
-}
-
-// What the record at a position asks.
-pub fn call_at(trace: &[u8], at: usize) -> CallRead
-    ensures { (call_told trace.now result ≡ read_call trace.now at) × CallFits trace.now at (at + 1) result }
-{
-    let start = Cursor { at };
-    let NumberRead::Number(kind, from) = start.number(trace) else {
-        return CallRead::Malformed;
-    };
-    match kind {
-        1 => create(trace, from),
-        2 => remove(trace, from),
-        3 => read(trace, from),
-        4 => write(trace, from),
-        5 => CallRead::Call(Call::Free, from),
-        _ => CallRead::Malformed,
+    #[tactic(auto, unfolding(tfs_spec::specs::Traces::read_remove))]
+    fn remove(self) -> Option<(Call, Cursor<'a>)>
+        ensures value { told (call_of self.entry.trace.now) result ≡ read_remove self.entry.trace.now self.entry.at }
+        ensures onward { IfSome result (λ read. Forward self.entry.trace.now self.entry.at read.1.at) }
+        ensures fits { IfSome result (λ read. CallFits self.entry.trace.now self.entry.at read.0 read.1.at) }
+        ensures trace { IfSome result (λ read. read.1.trace ≡ self.entry.trace) }
+    {
+        let (name, cursor) = self.string()?;
+        Some((Call::Remove { name }, cursor))
     }
-}
 
-// A number as the result of a granted request.
-fn amount(n: NumberRead) -> ExpectedRead
-    ensures { result ≡ amount_of n }
-{
-    match n {
-        NumberRead::Malformed => ExpectedRead::Malformed,
-        NumberRead::Number(n, next) => ExpectedRead::Expected(Expected::Amount(n), next),
+    #[tactic(auto, unfolding(tfs_spec::specs::Traces::read_read))]
+    fn read(self) -> Option<(Call, Cursor<'a>)>
+        ensures value { told (call_of self.entry.trace.now) result ≡ read_read self.entry.trace.now self.entry.at }
+        ensures onward { IfSome result (λ read. Forward self.entry.trace.now self.entry.at read.1.at) }
+        ensures fits { IfSome result (λ read. CallFits self.entry.trace.now self.entry.at read.0 read.1.at) }
+        ensures trace { IfSome result (λ read. read.1.trace ≡ self.entry.trace) }
+    {
+        let (name, cursor) = self.string()?;
+        let (offset, cursor) = cursor.number()?;
+        let (len, cursor) = cursor.number()?;
+        Some((Call::Read { name, offset, len }, cursor))
     }
-}
 
-// Bytes as the result of a granted request.
-fn bytes(s: StringRead) -> ExpectedRead
-    ensures { result ≡ bytes_of s }
-{
-    match s {
-        StringRead::Malformed => ExpectedRead::Malformed,
-        StringRead::String(span, next) => ExpectedRead::Expected(Expected::Bytes(span), next),
+    #[tactic(auto, unfolding(tfs_spec::specs::Traces::read_write))]
+    fn write(self) -> Option<(Call, Cursor<'a>)>
+        ensures value { told (call_of self.entry.trace.now) result ≡ read_write self.entry.trace.now self.entry.at }
+        ensures onward { IfSome result (λ read. Forward self.entry.trace.now self.entry.at read.1.at) }
+        ensures fits { IfSome result (λ read. CallFits self.entry.trace.now self.entry.at read.0 read.1.at) }
+        ensures trace { IfSome result (λ read. read.1.trace ≡ self.entry.trace) }
+    {
+        let (name, cursor) = self.string()?;
+        let (offset, cursor) = cursor.number()?;
+        let (bytes, cursor) = cursor.string()?;
+        Some((
+            Call::Write {
+                name,
+                offset,
+                bytes,
+            },
+            cursor,
+        ))
     }
-}
 
-// The answer expected of a request, at a position.
-pub fn expected_at(trace: &[u8], at: usize, call: Call) -> ExpectedRead
-    ensures { (expected_told trace.now result ≡ read_expected (call_of trace.now call) trace.now at) × ExpectedFits trace.now at call result }
-{
-    let start = Cursor { at };
-    let NumberRead::Number(refusal, from) = start.number(trace) else {
-        return ExpectedRead::Malformed;
-    };
-    if 0 < refusal {
-        return ExpectedRead::Expected(Expected::Refusal(refusal), from);
+    // What the record at the position asks.
+    #[tactic(auto, unfolding(tfs_spec::specs::Traces::read_call))]
+    pub(crate) fn call(self) -> Option<(Call, Cursor<'a>)>
+        ensures value { told (call_of self.entry.trace.now) result ≡ read_call self.entry.trace.now self.entry.at }
+        ensures onward { IfSome result (λ read. Forward self.entry.trace.now self.entry.at read.1.at) }
+        ensures fits { IfSome result (λ read. CallFits self.entry.trace.now (self.entry.at + 1) read.0 read.1.at) }
+        ensures trace { IfSome result (λ read. read.1.trace ≡ self.entry.trace) }
+    {
+        let (number, cursor) = self.number()?;
+        match Kind::try_from(number).ok()? {
+            Kind::Create => cursor.create(),
+            Kind::Remove => cursor.remove(),
+            Kind::Read => cursor.read(),
+            Kind::Write => cursor.write(),
+            Kind::Free => Some((Call::Free, cursor)),
+        }
     }
-    match call {
-        Call::Create(_, _) => ExpectedRead::Expected(Expected::Nothing, from),
-        Call::Remove(_) => ExpectedRead::Expected(Expected::Nothing, from),
-        Call::Read(_, _, _) => bytes(from.string(trace)),
-        Call::Write(_, _, _) => amount(from.number(trace)),
-        Call::Free => amount(from.number(trace)),
+
+    // The answer expected of a request, at the position.
+    #[tactic(auto, unfolding(tfs_spec::specs::Traces::read_expected))]
+    pub(crate) fn expected(self, call: Call) -> Option<(Expected, Cursor<'a>)>
+        ensures value { told (expected_of self.entry.trace.now) result ≡ read_expected (call_of self.entry.trace.now call) self.entry.trace.now self.entry.at }
+        ensures onward { IfSome result (λ read. Forward self.entry.trace.now self.entry.at read.1.at) }
+        ensures fits { IfSome result (λ read. ExpectedFits self.entry.trace.now call read.0 read.1.at) }
+        ensures trace { IfSome result (λ read. read.1.trace ≡ self.entry.trace) }
+    {
+        let (refusal, cursor) = self.number()?;
+        let granted = refusal == 0;
+        if !granted {
+            return Some((Expected::Refusal(refusal), cursor));
+        }
+        match call {
+            Call::Create { .. } => Some((Expected::Nothing, cursor)),
+            Call::Remove { .. } => Some((Expected::Nothing, cursor)),
+            Call::Read { .. } => {
+                let (bytes, cursor) = cursor.string()?;
+                Some((Expected::Bytes(bytes), cursor))
+            }
+            Call::Write { .. } => {
+                let (count, cursor) = cursor.number()?;
+                Some((Expected::Amount(count), cursor))
+            }
+            Call::Free => {
+                let (free, cursor) = cursor.number()?;
+                Some((Expected::Amount(free), cursor))
+            }
+        }
     }
 }

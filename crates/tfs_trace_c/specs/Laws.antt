@@ -1,9 +1,8 @@
 -- What the struct of a record read stands for, and that it has no field but its own.
-use Rattle.std.specs.Prelude.{◌≡◌, refl, ◌≢◌, Bool, true, false, ℕ, ◌+◌, ◌≤◌, ◌<◌, List, T, leb, eqb}
-use Rattle.std.proofs.Common.{sym, ap, subst, ◌∙◌, arith, le-leb, ne_eqb}
+use Rattle.std.specs.Prelude.{◌≡◌, refl, ◌≢◌, Bool, true, false, ℕ, ◌+◌, ◌<◌, Option, Some, None, IfSome, Result, List, T, eqb, zero, suc}
+use Rattle.std.proofs.Common.{sym, ap, subst, ◌∙◌, arith, ne_eqb}
 use Rattle.std.proofs.Math.Bool.{and-false}
-use Rattle.std.proofs.lemmas.Bool.{lt-leb}
-use Rattle.tfs_spec.specs.Requests.{refused}
+use Rattle.std.proofs.lemmas.Bool.{lt-leb, eqb-false, eqb-true}
 use Rattle.tfs_spec.specs.Traces.{Fitting, of-create, of-remove, of-read, of-write, of-count, of-refusal, write_record}
 use Rattle.tfs_spec.specs.Traces as rules
 use Rattle.tfs_trace.specs.declared.Span.{Span}
@@ -11,19 +10,17 @@ use Rattle.tfs_trace.specs.declared.Call.{Call}
 use Rattle.tfs_trace.specs.declared.Call.TheVariants as call
 use Rattle.tfs_trace.specs.declared.Expected.{Expected}
 use Rattle.tfs_trace.specs.declared.Expected.TheVariants as expected
-use Rattle.tfs_trace.specs.declared.Cursor.{Cursor}
 use Rattle.tfs_trace.specs.declared.Record.{Record}
-use Rattle.tfs_trace.specs.declared.RecordRead.{RecordRead}
-use Rattle.tfs_trace.specs.declared.RecordRead.TheVariants as record_read
-use Rattle.tfs_trace.specs.Told.{call_of, expected_of, CallInside, ExpectedInside, CallLies, ExpectedLies, record_told, RecordFits}
+use Rattle.tfs_trace.specs.declared.Cursor.{Cursor}
+use Rattle.tfs_trace.specs.Told.{call_of, expected_of, record_of, told, CallInside, ExpectedInside, CallLies, ExpectedLies, InsideRecord, RecordLies}
 use Rattle.tfs_trace_write.specs.declared.Draft.{Draft}
-use Rattle.tfs_trace_write.specs.declared.Written.{Written}
+use Rattle.tfs_trace_write.specs.declared.TooLarge.{TooLarge}
 use Rattle.tfs_trace_write.specs.Drafts.{draft_told, written_told}
 use Rattle.tfs_trace_c.specs.declared.TfsEntry.{TfsEntry}
 use Rattle.tfs_trace_c.specs.declared.TfsRecord.{TfsRecord}
 use Rattle.tfs_trace_c.specs.declared.TfsWritten.{TfsWritten}
 use Rattle.tfs_trace_c.specs.declared.Given.{Given}
-use Rattle.tfs_trace_c.specs.Record.{known, entry_record, given_of, filled, asked, struct_of, record_in, has_name, Shaped, Placed, draft_of, write_entry, written_of}
+use Rattle.tfs_trace_c.specs.Record.{known, entry_record, given_of, asked, struct_of, record_in, has_name, Shaped, Placed, draft_of, write_entry, written, written_of}
 
 -- ---- which answers a request may expect, by cases
 abbrev AnyOf : Bool → Bool → Bool → rules.Expected → Type 0
@@ -144,59 +141,59 @@ module _ (t : List ℕ) (next : ℕ) where
     given_by (call.Write nm o bs) e f l h = absurd (omega arith)
     given_by call.Free e f l h = absurd (omega arith)
 
-pub stands : (t : List ℕ) (at : ℕ) (a : RecordRead) → RecordFits t at a → record_in t (struct_of a) ≡ record_told t a
-stands t at (record_read.Record r c) h = stands_by t c.at r.call r.expected (fits _ _ h.1.2)
-stands t at record_read.Malformed h = refl
+module _ (t : List ℕ) (at : ℕ) where
+  stands : (a : Option (Record × Cursor)) → IfSome a (λ read. InsideRecord t read.0) → record_in t (struct_of a) ≡ told (record_of t) a
+  stands (Some read) h = stands_by t read.1.at read.0.call read.0.expected (fits _ _ h.2)
+  stands None h = refl
 
-pub shaped : (t : List ℕ) (at : ℕ) (a : RecordRead) → RecordFits t at a → Shaped t (struct_of a)
-shaped t at (record_read.Record r c) h = shaped-by t c.at r.call r.expected (fits _ _ h.1.2) h.1.0 h.1.1
-shaped t at record_read.Malformed h = record { own = refl; name = omega arith; bytes = omega arith }
+  shaped : (a : Option (Record × Cursor)) → IfSome a (λ read. InsideRecord t read.0) → Shaped t (struct_of a)
+  shaped (Some read) h = shaped-by t read.1.at read.0.call read.0.expected (fits _ _ h.2) h.0 h.1
+  shaped None h = record { own = refl; name = omega arith; bytes = omega arith }
 
-pub placed : (t : List ℕ) (at : ℕ) (a : RecordRead) → RecordFits t at a → Placed t at (struct_of a)
-placed t at (record_read.Record r c) h =
-    let l = h.2 in
-    record {
-      named = named_by t c.at at l.middle r.call (given_of r.expected) l.call_lies;
-      written = written-by t c.at at l.middle r.call (given_of r.expected) l.called l.call_lies;
-      given = given_by t c.at at r.call r.expected (fits _ _ h.1.2) l.expected-lies;
-    }
-placed t at record_read.Malformed h = record { named = λ k. absurd k; written = λ k. absurd (omega arith); given = λ k z. absurd (omega arith) }
+  placed : (a : Option (Record × Cursor)) → IfSome a (λ read. InsideRecord t read.0) → IfSome a (λ read. RecordLies t at read.0 read.1.at) → Placed t at (struct_of a)
+  placed (Some read) h l =
+      record {
+        named = named_by t read.1.at at l.middle read.0.call (given_of read.0.expected) l.call_lies;
+        written = written-by t read.1.at at l.middle read.0.call (given_of read.0.expected) l.called l.call_lies;
+        given = given_by t read.1.at at read.0.call read.0.expected (fits _ _ h.2) l.expected-lies;
+      }
+  placed None h l = record { named = λ k. absurd k; written = λ k. absurd (omega arith); given = λ k z. absurd (omega arith) }
 
--- ---- a struct by the values that it was made from
-pub filled-by : {r : TfsRecord} {e x : TfsEntry} {nm bs : Span} {next : ℕ} → r ≡ filled e nm bs next → e ≡ x → r ≡ filled x nm bs next
-filled-by {nm = nm} {bs = bs} {next = next} h q = h ∙ ap (λ (y : TfsEntry). filled y nm bs next) q
-
-pub asked_by : {x y : Call} (g : Given) (next : ℕ) → x ≡ y → asked y g next ≡ asked x g next
-asked_by g next q = ap (λ (z : Call). asked z g next) (sym q)
-
-pub record_is : (x : Record) (c : Cursor) {r : TfsRecord} {g : Given} {a : RecordRead} → r ≡ asked x.call g c.at → g ≡ given_of x.expected → a ≡ record_read.Record x c → r ≡ struct_of a
-record_is x c h e q = h ∙ ap (λ (g : Given). asked x.call g c.at) e ∙ ap struct_of (sym q)
-
-pub read_is : (t : List ℕ) (at : ℕ) (a : RecordRead) {r : TfsRecord} {x : rules.Parsed rules.Record} → r ≡ struct_of a → record_told t a ≡ x → RecordFits t at a → (record_in t r ≡ x) × Shaped t r × Placed t at r
-read_is t at a e told h = (ap (record_in t) e ∙ stands t at a h ∙ told, subst (Shaped t) (sym e) (shaped t at a h), subst (Placed t at) (sym e) (placed t at a h))
+  pub read_is : (a : Option (Record × Cursor)) {r : TfsRecord} {x : rules.Parsed rules.Record} → r ≡ struct_of a → told (record_of t) a ≡ x → IfSome a (λ read. InsideRecord t read.0) → IfSome a (λ read. RecordLies t at read.0 read.1.at) → (record_in t r ≡ x) × Shaped t r × Placed t at r
+  read_is a e say h l = (ap (record_in t) e ∙ stands a h ∙ say, subst (Shaped t) (sym e) (shaped a h), subst (Placed t at) (sym e) (placed a h l))
 
 -- ---- writing
+none_known : (k : ℕ) → k ≢ 1 → k ≢ 2 → k ≢ 3 → k ≢ 4 → k ≢ 5 → known k ≡ false
+none_known zero a b c d f = refl
+none_known (suc k) a b c d f = let high : 5 < suc k = omega arith in rw (lt-leb (suc k) 5 high, and-false)
+
 module _ (e : TfsEntry) (nm bs : List ℕ) where
-  drafted : (a b c d : Bool) → eqb e.kind 1 ≡ a → eqb e.kind 2 ≡ b → eqb e.kind 3 ≡ c → eqb e.kind 4 ≡ d → draft_told (draft_of e) nm bs e.refusal e.value ≡ entry_record e nm bs
-  drafted true b c d h i j k = rw h
-  drafted false true c d h i j k = rw (h, i)
-  drafted false false true d h i j k = rw (h, i, j)
-  drafted false false false true h i j k = rw (h, i, j, k)
-  drafted false false false false h i j k = rw (h, i, j, k)
+  -- the draft of an entry stands for its record
+  abbrev Stood : Option Draft → Type 0
+  Stood (Some x) = (known e.kind ≡ true) × (draft_told x nm bs e.refusal e.value ≡ entry_record e nm bs)
+  Stood None = known e.kind ≡ false
+
+  drafted : (a b c d f : Bool) → eqb e.kind 1 ≡ a → eqb e.kind 2 ≡ b → eqb e.kind 3 ≡ c → eqb e.kind 4 ≡ d → eqb e.kind 5 ≡ f → Stood (draft_of e)
+  drafted true b c d f h i j k l = let n : e.kind ≡ 1 = eqb-true _ _ h in rw h (rw n, rw h)
+  drafted false true c d f h i j k l = let n : e.kind ≡ 2 = eqb-true _ _ i in rw (h, i) (rw n, rw (h, i))
+  drafted false false true d f h i j k l = let n : e.kind ≡ 3 = eqb-true _ _ j in rw (h, i, j) (rw n, rw (h, i, j))
+  drafted false false false true f h i j k l = let n : e.kind ≡ 4 = eqb-true _ _ k in rw (h, i, j, k) (rw n, rw (h, i, j, k))
+  drafted false false false false true h i j k l = let n : e.kind ≡ 5 = eqb-true _ _ l in rw (h, i, j, k, l) (rw n, rw (h, i, j, k))
+  drafted false false false false false h i j k l = rw (h, i, j, k, l) (none_known e.kind (eqb-false _ _ h) (eqb-false _ _ i) (eqb-false _ _ j) (eqb-false _ _ k) (eqb-false _ _ l))
+
+  stood : (o : Option Draft) → o ≡ draft_of e → Stood o
+  stood o q = subst Stood (sym q) (drafted (eqb e.kind 1) (eqb e.kind 2) (eqb e.kind 3) (eqb e.kind 4) (eqb e.kind 5) refl refl refl refl refl)
 
   module _ (out : List ℕ) where
     abbrev Answers : TfsWritten → List ℕ → Type 0
     Answers r left = (r ≡ written_of (write_entry out e nm bs).answer) × (left ≡ (write_entry out e nm bs).buffer)
 
-    pub none-low : {r : TfsWritten} → e.kind < 1 → r ≡ written_of (refused 33 0) → Answers r out
-    none-low h q = let no : leb 1 e.kind ≡ false = lt-leb 1 e.kind h in (rw no q, rw no)
+    pub none_is : None ≡ draft_of e → Answers (written 33 0) out
+    unfolding written_of
+    none_is q = let no : known e.kind ≡ false = stood None q in (rw no, rw no)
 
-    pub none-high : {r : TfsWritten} → 5 < e.kind → r ≡ written_of (refused 33 0) → Answers r out
-    none-high h q = let no : known e.kind ≡ false = rw (lt-leb e.kind 5 h, and-false) in (rw no q, rw no)
-
-    pub written_is : (w : Written) {r : TfsWritten} {left : List ℕ} {d : Draft} → 1 ≤ e.kind → e.kind ≤ 5 → d ≡ draft_of e → written_told w ≡ (write_record out (draft_told d nm bs e.refusal e.value)).answer → left ≡ (write_record out (draft_told d nm bs e.refusal e.value)).buffer → r ≡ written_of (written_told w) → Answers r left
-    written_is w low high made told put q =
-        let yes : known e.kind ≡ true = rw (le-leb 1 e.kind low, le-leb e.kind 5 high) in
-        let same : draft_told (draft_of e) nm bs e.refusal e.value ≡ entry_record e nm bs = drafted (eqb e.kind 1) (eqb e.kind 2) (eqb e.kind 3) (eqb e.kind 4) refl refl refl refl in
-        let all = ap (λ (x : Draft). write_record out (draft_told x nm bs e.refusal e.value)) made ∙ ap (write_record out) same in
-        (rw yes (q ∙ ap written_of told ∙ ap (λ (x : rules.Written). written_of x.answer) all), rw yes (put ∙ ap (λ (x : rules.Written). x.buffer) all))
+    pub written_is : (w : Result ℕ TooLarge) (d : Draft) {r : TfsWritten} {left : List ℕ} → Some d ≡ draft_of e → written_told w ≡ (write_record out (draft_told d nm bs e.refusal e.value)).answer → left ≡ (write_record out (draft_told d nm bs e.refusal e.value)).buffer → r ≡ written_of (written_told w) → Answers r left
+    written_is w d made told put q =
+        let known_kind = stood (Some d) made in
+        let all = ap (write_record out) known_kind.1 in
+        (rw known_kind.0 (q ∙ ap written_of told ∙ ap (λ (x : rules.Written). written_of x.answer) all), rw known_kind.0 (put ∙ ap (λ (x : rules.Written). x.buffer) all))

@@ -1,5 +1,5 @@
 -- What the structs of the C interface tell: a record of the rules, as numbers and positions.
-use Rattle.std.specs.Prelude.{◌≡◌, Bool, cond, ◌&&◌, ◌||◌, ℕ, ◌+◌, ◌≤◌, List, length, T, eqb, leb}
+use Rattle.std.specs.Prelude.{◌≡◌, Bool, cond, ◌&&◌, ◌||◌, ℕ, ◌+◌, ◌≤◌, Option, Some, None, List, length, T, eqb, leb}
 use Rattle.lists.specs.Lists.{part}
 use Rattle.tfs_spec.specs.Requests.{Answer, refusal_of, count_of}
 use Rattle.tfs_spec.specs.Traces as rules
@@ -10,8 +10,8 @@ use Rattle.tfs_trace.specs.declared.Call.{Call}
 use Rattle.tfs_trace.specs.declared.Call.TheVariants as call
 use Rattle.tfs_trace.specs.declared.Expected.{Expected}
 use Rattle.tfs_trace.specs.declared.Expected.TheVariants as expected
-use Rattle.tfs_trace.specs.declared.RecordRead.{RecordRead}
-use Rattle.tfs_trace.specs.declared.RecordRead.TheVariants as record_read
+use Rattle.tfs_trace.specs.declared.Record.{Record}
+use Rattle.tfs_trace.specs.declared.Cursor.{Cursor}
 use Rattle.tfs_trace_write.specs.declared.Draft.{Draft}
 use Rattle.tfs_trace_write.specs.declared.Draft.TheVariants as draft
 use Rattle.tfs_trace_c.specs.declared.TfsEntry.{TfsEntry}
@@ -45,7 +45,7 @@ record_in t r =
     (rules.parsed (entry_record r.entry (part r.name_at r.name_length t) (part r.bytes_at r.bytes_length t)) r.next)
     rules.malformed
 
--- ---- the struct of what the reader gives
+-- ---- the struct of what the cursor gives
 abbrev pub given : ℕ → ℕ → Span → Given
 given num v bs = record { refusal = num; value = v; bytes = bs }
 
@@ -71,9 +71,9 @@ asked (call.Read nm o len) g next = filled (entry 3 0 o len g) nm g.bytes next
 asked (call.Write nm o bs) g next = filled (entry 4 0 o 0 g) nm bs next
 asked call.Free g next = filled (entry 5 0 0 0 g) none g.bytes next
 
-abbrev pub struct_of : RecordRead → TfsRecord
-struct_of (record_read.Record r c) = asked r.call (given_of r.expected) c.at
-struct_of record_read.Malformed = filled (entry 0 0 0 0 (given 0 0 none)) none none 0
+abbrev pub struct_of : Option (Record × Cursor) → TfsRecord
+struct_of (Some read) = asked read.0.call (given_of read.0.expected) read.1.at
+struct_of None = filled (entry 0 0 0 0 (given 0 0 none)) none none 0
 
 -- ---- the fields that a record has; the others are 0
 abbrev pub only : Bool → ℕ → ℕ
@@ -128,12 +128,13 @@ pub record Placed (t : List ℕ) (at : ℕ) (r : TfsRecord) : Type 0 where
   pub given : r.entry.kind ≡ 3 → r.entry.refusal ≡ 0 → r.bytes_at + r.bytes_length ≡ r.next
 
 -- ---- writing
-abbrev pub draft_of : TfsEntry → Draft
+abbrev pub draft_of : TfsEntry → Option Draft
 draft_of e =
-    cond (eqb e.kind 1) (draft.Create e.size)
-    (cond (eqb e.kind 2) draft.Remove
-    (cond (eqb e.kind 3) (draft.Read e.offset e.length)
-    (cond (eqb e.kind 4) (draft.Write e.offset) draft.Free)))
+    cond (eqb e.kind 1) (Some (draft.Create e.size))
+    (cond (eqb e.kind 2) (Some draft.Remove)
+    (cond (eqb e.kind 3) (Some (draft.Read e.offset e.length))
+    (cond (eqb e.kind 4) (Some (draft.Write e.offset))
+    (cond (eqb e.kind 5) (Some draft.Free) None))))
 
 abbrev pub write_entry : List ℕ → TfsEntry → List ℕ → List ℕ → rules.Written
 write_entry out e nm bs = cond (known e.kind) (rules.write_record out (entry_record e nm bs)) (rules.not_written out)

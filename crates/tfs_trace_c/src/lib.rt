@@ -4,13 +4,13 @@
 ghost use Rattle.std.specs.Prelude.{◌≡◌};
 ghost use Rattle.tfs_spec.specs.Replays.{replay};
 ghost use Rattle.tfs_spec.specs.Traces.{read_record};
-ghost use Rattle.tfs.specs.Told.{fault_number, fault_place, replay_told};
+ghost use Rattle.tfs.specs.Told.{replay_told};
 ghost use Rattle.tfs_trace_write.specs.Drafts.{written_told};
-ghost use Rattle.tfs_trace_c.specs.Record.{given, given_of, entry, filled, asked, struct_of, record_in, Shaped, Placed, draft_of, write_entry, written_of, replayed, replayed_of};
+ghost use Rattle.tfs_trace_c.specs.Record.{given_of, entry, filled, asked, struct_of, record_in, Shaped, Placed, draft_of, write_entry, written_of, replayed, replayed_of};
 
-use tfs::{Fault, ReplayAnswer};
-use tfs_trace::{Call, Cursor, Expected, RecordRead, Span};
-use tfs_trace_write::{Draft, Written, write_record};
+use tfs::ReplayError;
+use tfs_trace::{Call, Cursor, Expected, Record, Span};
+use tfs_trace_write::{Draft, TooLarge, write_record};
 
 // The numbers of a record; those that its kind does not have are 0.
 #[repr(C)]
@@ -64,24 +64,21 @@ struct Given {
     bytes: Span,
 }
 
-fn given_of(refusal: u64, value: u64, bytes: Span) -> Given
-    ensures { result ≡ given refusal value bytes }
-{
-    Given {
-        refusal: refusal,
-        value: value,
-        bytes: bytes,
-    }
-}
+const NONE: Span = Span { at: 0, len: 0 };
 
 fn of_expected(expected: Expected) -> Given
     ensures { result ≡ given_of expected }
 {
-    match expected {
-        Expected::Nothing => given_of(0, 0, Span { at: 0, len: 0 }),
-        Expected::Bytes(bytes) => given_of(0, 0, bytes),
-        Expected::Amount(n) => given_of(0, n as u64, Span { at: 0, len: 0 }),
-        Expected::Refusal(n) => given_of(n as u64, 0, Span { at: 0, len: 0 }),
+    let (refusal, value, bytes) = match expected {
+        Expected::Nothing => (0, 0, NONE),
+        Expected::Bytes(bytes) => (0, 0, bytes),
+        Expected::Amount(n) => (0, n as u64, NONE),
+        Expected::Refusal(n) => (n as u64, 0, NONE),
+    };
+    Given {
+        refusal,
+        value,
+        bytes,
     }
 }
 
@@ -89,10 +86,10 @@ fn entry_of(kind: u64, size: u64, offset: u64, length: u64, given: Given) -> Tfs
     ensures { result ≡ entry kind size offset length given }
 {
     TfsEntry {
-        kind: kind,
-        size: size,
-        offset: offset,
-        length: length,
+        kind,
+        size,
+        offset,
+        length,
         refusal: given.refusal,
         value: given.value,
     }
@@ -102,7 +99,7 @@ fn fill(entry: TfsEntry, name: Span, bytes: Span, next: usize) -> TfsRecord
     ensures { result ≡ filled entry name bytes next }
 {
     TfsRecord {
-        entry: entry,
+        entry,
         name_at: name.at as u64,
         name_length: name.len as u64,
         bytes_at: bytes.at as u64,
@@ -116,36 +113,47 @@ fn of_call(call: Call, given: Given, next: usize) -> TfsRecord
 {
     let result = given.bytes;
     match call {
-        Call::Create(name, size) => fill(entry_of(1, size as u64, 0, 0, given), name, result, next),
-        Call::Remove(name) => fill(entry_of(2, 0, 0, 0, given), name, result, next),
-        Call::Read(name, offset, length) => fill(
-            entry_of(3, 0, offset as u64, length as u64, given),
+        Call::Create { name, size } => {
+            fill(entry_of(1, size as u64, 0, 0, given), name, result, next)
+        }
+        Call::Remove { name } => fill(entry_of(2, 0, 0, 0, given), name, result, next),
+        Call::Read { name, offset, len } => fill(
+            entry_of(3, 0, offset as u64, len as u64, given),
             name,
             result,
             next,
         ),
-        Call::Write(name, offset, bytes) => {
-            fill(entry_of(4, 0, offset as u64, 0, given), name, bytes, next)
-        }
-        Call::Free => fill(
-            entry_of(5, 0, 0, 0, given),
-            Span { at: 0, len: 0 },
-            result,
-            next,
-        ),
+        Call::Write {
+            name,
+            offset,
+            bytes,
+        } => fill(entry_of(4, 0, offset as u64, 0, given), name, bytes, next),
+        Call::Free => fill(entry_of(5, 0, 0, 0, given), NONE, result, next),
     }
 }
 
-fn of_record(read: RecordRead) -> TfsRecord
-    ensures { result ≡ struct_of read }
+// A record that was read, with the cursor behind it, or a malformed one.
+fn of_record(read: Option<(Record, Cursor)>) -> TfsRecord
+    ensures { result ≡ struct_of read.entry }
 {
-    let none = Span { at: 0, len: 0 };
-    let RecordRead::Record(record, next) = read else {
-        return fill(entry_of(0, 0, 0, 0, given_of(0, 0, none)), none, none, 0);
-    };
-    let call = record.call;
-    let expected = record.expected;
-    of_call(call, of_expected(expected), next.at)
+    match read {
+        Some((record, next)) => of_call(record.call, of_expected(record.expected), next.at),
+        None => TfsRecord {
+            entry: TfsEntry {
+                kind: 0,
+                size: 0,
+                offset: 0,
+                length: 0,
+                refusal: 0,
+                value: 0,
+            },
+            name_at: 0,
+            name_length: 0,
+            bytes_at: 0,
+            bytes_length: 0,
+            next: 0,
+        },
+    }
 }
 
 // The record at a position of the trace.
@@ -153,37 +161,43 @@ fn of_record(read: RecordRead) -> TfsRecord
 pub extern "C" fn tfs_trace_read(trace: &[u8], at: usize) -> TfsRecord
     ensures { (record_in trace.now result ≡ read_record trace.now at) × Shaped trace.now result × Placed trace.now at result }
 {
-    let cursor = Cursor { at: at };
-    of_record(cursor.record(trace))
+    of_record(Cursor { trace, at }.record())
 }
 
 // ---- writing
 
-fn of_written(written: Written) -> TfsWritten
+#[tactic(auto, unfolding(crate::specs::Record::written_of))]
+fn of_written(written: Result<usize, TooLarge>) -> TfsWritten
     ensures { result ≡ written_of (written_told written) }
 {
     match written {
-        Written::Granted(n) => TfsWritten {
+        Ok(n) => TfsWritten {
             refusal: 0,
             length: n as u64,
         },
-        Written::Refused(n) => TfsWritten {
-            refusal: n as u64,
+        Err(error) => TfsWritten {
+            refusal: error.number() as u64,
             length: 0,
         },
     }
 }
 
-fn draft_of(entry: TfsEntry) -> Draft
+// The record to be written, unless the kind is none.
+fn draft_of(entry: TfsEntry) -> Option<Draft>
     ensures { result ≡ draft_of entry }
 {
-    let kind = entry.kind;
-    match kind {
-        1 => Draft::Create(entry.size),
-        2 => Draft::Remove,
-        3 => Draft::Read(entry.offset, entry.length),
-        4 => Draft::Write(entry.offset),
-        _ => Draft::Free,
+    match entry.kind {
+        1 => Some(Draft::Create { size: entry.size }),
+        2 => Some(Draft::Remove),
+        3 => Some(Draft::Read {
+            offset: entry.offset,
+            len: entry.length,
+        }),
+        4 => Some(Draft::Write {
+            offset: entry.offset,
+        }),
+        5 => Some(Draft::Free),
+        _ => None,
     }
 }
 
@@ -197,15 +211,20 @@ pub extern "C" fn tfs_trace_write(
 ) -> TfsWritten
     ensures { (result ≡ written_of (write_entry out.old entry name.now bytes.now).answer) × (out.new ≡ (write_entry out.old entry name.now bytes.now).buffer) }
 {
-    let kind = entry.kind;
-    if kind < 1 {
-        return of_written(Written::Refused(33));
+    match draft_of(entry) {
+        Some(draft) => of_written(write_record(
+            out,
+            draft,
+            name,
+            bytes,
+            entry.refusal,
+            entry.value,
+        )),
+        None => TfsWritten {
+            refusal: 33,
+            length: 0,
+        },
     }
-    if 5 < kind {
-        return of_written(Written::Refused(33));
-    }
-    let draft = draft_of(entry);
-    of_written(write_record(out, draft, name, bytes, entry.refusal, entry.value))
 }
 
 // ---- replay
@@ -214,7 +233,7 @@ fn ended(outcome: u64, number: usize) -> TfsReplayed
     ensures { result ≡ replayed outcome number 0 0 }
 {
     TfsReplayed {
-        outcome: outcome,
+        outcome,
         number: number as u64,
         refusal: 0,
         place: 0,
@@ -232,24 +251,15 @@ fn denied(refusal: u32, place: u32) -> TfsReplayed
     }
 }
 
-fn of_fault(f: Fault) -> TfsReplayed
-    ensures { result ≡ replayed 3 0 (fault_number f) (fault_place f) }
+#[tactic(auto, unfolding(crate::specs::Record::replayed_of))]
+fn of_replay(replay: Result<usize, ReplayError>) -> TfsReplayed
+    ensures { result ≡ replayed_of (replay_told replay) }
 {
-    match f {
-        Fault::Header(n) => denied(n, 0),
-        Fault::Slot(n, s) => denied(n, s),
-        Fault::Block(n, b) => denied(n, b),
-    }
-}
-
-fn of_replay(a: ReplayAnswer) -> TfsReplayed
-    ensures { result ≡ replayed_of (replay_told a) }
-{
-    match a {
-        ReplayAnswer::All(n) => ended(0, n),
-        ReplayAnswer::Malformed(k) => ended(1, k),
-        ReplayAnswer::Differs(k) => ended(2, k),
-        ReplayAnswer::Inconsistent(f) => of_fault(f),
+    match replay {
+        Ok(n) => ended(0, n),
+        Err(ReplayError::Malformed(k)) => ended(1, k),
+        Err(ReplayError::Differs(k)) => ended(2, k),
+        Err(ReplayError::Inconsistent(fault)) => denied(fault.rule(), fault.place()),
     }
 }
 

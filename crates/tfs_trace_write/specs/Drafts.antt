@@ -1,11 +1,10 @@
 -- The record that a draft stands for, with its name, bytes, refusal and value; and what writing answers.
-use Rattle.std.specs.Prelude.{cond, ℕ, List, eqb}
+use Rattle.std.specs.Prelude.{cond, ℕ, Result, Ok, Err, List, eqb}
 use Rattle.tfs_spec.specs.Requests.{Answer, value, refused}
 use Rattle.tfs_spec.specs.Traces.{Call, creating, removing, reading, writing, counting, Expected, nothing, bytes, amount, refusal, Record, record_of}
 use Rattle.tfs_trace_write.specs.declared.Draft.{Draft}
 use Rattle.tfs_trace_write.specs.declared.Draft.TheVariants as draft
-use Rattle.tfs_trace_write.specs.declared.Written.{Written}
-use Rattle.tfs_trace_write.specs.declared.Written.TheVariants as written
+use Rattle.tfs_trace_write.specs.declared.TooLarge.{TooLarge}
 
 abbrev pub draft_call : Draft → List ℕ → List ℕ → Call
 draft_call (draft.Create z) nm bs = creating nm z
@@ -29,6 +28,6 @@ draft_expected d bs num v = cond (eqb num 0) (draft_result d bs v) (refusal num)
 abbrev pub draft_told : Draft → List ℕ → List ℕ → ℕ → ℕ → Record
 draft_told d nm bs num v = record_of (draft_call d nm bs) (draft_expected d bs num v)
 
-abbrev pub written_told : Written → Answer
-written_told (written.Granted n) = value n
-written_told (written.Refused num) = refused num 0
+abbrev pub written_told : Result ℕ TooLarge → Answer
+written_told (Ok n) = value n
+written_told (Err e) = refused 33 0

@@ -1,7 +1,7 @@
 -- A record as two halves, each a number and up to three fields: what was asked, and what was answered.
 use Rattle.std.specs.Prelude.{◌≡◌, refl, Bool, true, false, cond, ◌&&◌, ℕ, ◌+◌, ◌≤◌, ◌<◌, List, [], ◌++◌, length, ltb, eqb}
 use Rattle.std.proofs.Common.{ap, ◌∙◌, arith, ltb-true, append_assoc, length-append}
-use Rattle.tfs_trace_write.specs.Puts.{put, put-behind}
+use Rattle.tfs_trace_write.specs.Puts.{put, put_behind}
 use Rattle.tfs_spec.specs.Traces.{number, string}
 use Rattle.tfs_trace_write.specs.declared.Draft.{Draft}
 use Rattle.tfs_trace_write.specs.declared.Draft.TheVariants as draft
@@ -105,8 +105,8 @@ module _ (h : Half) (nm bs : List ℕ) (at a b c : ℕ) (s t u v w : List ℕ) (
       let x : List ℕ = field_bytes h.first nm bs in
       let y : List ℕ = field_bytes h.second nm bs in
       let z : List ℕ = field_bytes h.third nm bs in
-      let one = put-behind at a n x s t u room et ea eu in
+      let one = put_behind at a n x s t u room et ea eu in
       let to-b : b ≡ at + length (n ++ x) = simp length-append (omega (arith, length-field h.first nm bs)) in
-      let two = put-behind at b (n ++ x) y s u v room one to-b ev in
+      let two = put_behind at b (n ++ x) y s u v room one to-b ev in
       let to-c : c ≡ at + length ((n ++ x) ++ y) = simp length-append (omega (arith, length-field h.first nm bs, length-field h.second nm bs)) in
-      put-behind at c ((n ++ x) ++ y) z s v w room two to-c ew ∙ ap (λ (l : List ℕ). put at l s) (simp append_assoc)
+      put_behind at c ((n ++ x) ++ y) z s v w room two to-c ew ∙ ap (λ (l : List ℕ). put at l s) (simp append_assoc)

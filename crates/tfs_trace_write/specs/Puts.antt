@@ -8,14 +8,14 @@ use Rattle.tfs_spec.specs.Traces.{groups}
 unfoldable pub put : ℕ → List ℕ → List ℕ → List ℕ
 put at x s = take at s ++ (x ++ drop (length x) (drop at s))
 
-pub put-none : (at : ℕ) (s : List ℕ) → put at [] s ≡ s
+pub put_none : (at : ℕ) (s : List ℕ) → put at [] s ≡ s
 unfolding put
-put-none at s = take-append-drop at s
+put_none at s = take-append-drop at s
 
 -- at the start of the buffer
-pub put-start : (x s : List ℕ) → put 0 x s ≡ x ++ drop (length x) s
+pub put_start : (x s : List ℕ) → put 0 x s ≡ x ++ drop (length x) s
 unfolding put
-put-start x s = refl
+put_start x s = refl
 
 -- a put behind another is one put of both
 pub put-put : (at to : ℕ) (x y s : List ℕ) → at ≤ length s → to ≡ at + length x → put to y (put at x s) ≡ put at (x ++ y) s
@@ -27,8 +27,8 @@ put-put at to x y s h e =
     rw (whole, take_at (take at s ++ x) rest to n, drop_at (take at s ++ x) rest to n, drop-drop (length y) (length x) (drop at s), length-append) (simp append_assoc)
 
 -- the same of buffers that a first put and a second one left
-pub put-behind : (at to : ℕ) (x y s t u : List ℕ) → at ≤ length s → t ≡ put at x s → to ≡ at + length x → u ≡ put to y t → u ≡ put at (x ++ y) s
-put-behind at to x y s t u h first e second = second ∙ rw first (put-put at to x y s h e)
+pub put_behind : (at to : ℕ) (x y s t u : List ℕ) → at ≤ length s → t ≡ put at x s → to ≡ at + length x → u ≡ put to y t → u ≡ put at (x ++ y) s
+put_behind at to x y s t u h first e second = second ∙ rw first (put-put at to x y s h e)
 
 -- one byte
 pub put_one : (at b : ℕ) (s : List ℕ) → at < length s → set s at b ≡ put at (b ∷ []) s
@@ -44,20 +44,20 @@ unfolding groups
 groups_none zero n z = refl
 groups_none (suc f) n z = absurd (omega arith)
 
-pub groups-last : (f n : ℕ) → (f ≡ 0 → ⊥) → n < 128 → groups f n ≡ n ∷ []
+pub groups_last : (f n : ℕ) → (f ≡ 0 → ⊥) → n < 128 → groups f n ≡ n ∷ []
 unfolding groups
-groups-last zero n z h = absurd (z refl)
-groups-last (suc f) n z h = rw (lt-ltb _ _ h)
+groups_last zero n z h = absurd (z refl)
+groups_last (suc f) n z h = rw (lt-ltb _ _ h)
 
-pub groups-more : (f n : ℕ) → (f ≡ 0 → ⊥) → 128 ≤ n → groups f n ≡ (n % 128 + 128) ∷ groups (f - 1) (n / 128)
+pub groups_more : (f n : ℕ) → (f ≡ 0 → ⊥) → 128 ≤ n → groups f n ≡ (n % 128 + 128) ∷ groups (f - 1) (n / 128)
 unfolding groups
-groups-more zero n z h = absurd (z refl)
-groups-more (suc f) n z h = rw (le-ltb _ _ h, sub-one)
+groups_more zero n z h = absurd (z refl)
+groups_more (suc f) n z h = rw (le-ltb _ _ h, sub-one)
 
 -- the last group, and a group before others
 module _ (f n at b : ℕ) (s : List ℕ) (some : f ≡ 0 → ⊥) (room : at < length s) where
   pub put_last : n < 128 → b ≡ n % 128 + 0 → set s at b ≡ put at (groups f n) s
-  put_last h e = let same : b ≡ n = omega arith in rw (groups-last f n some h, same) (put_one at n s room)
+  put_last h e = let same : b ≡ n = omega arith in rw (groups_last f n some h, same) (put_one at n s room)
 
-  pub put-more : 128 ≤ n → b ≡ n % 128 + 128 → put (at + 1) (groups (f - 1) (n / 128)) (set s at b) ≡ put at (groups f n) s
-  put-more h e = rw (groups-more f n some h, e) (put-cons at (n % 128 + 128) (groups (f - 1) (n / 128)) s room)
+  pub put_more : 128 ≤ n → b ≡ n % 128 + 128 → put (at + 1) (groups (f - 1) (n / 128)) (set s at b) ≡ put at (groups f n) s
+  put_more h e = rw (groups_more f n some h, e) (put-cons at (n % 128 + 128) (groups (f - 1) (n / 128)) s room)

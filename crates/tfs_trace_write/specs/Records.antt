@@ -1,14 +1,14 @@
 -- Writing a record, by its halves.
-use Rattle.std.specs.Prelude.{◌≡◌, refl, Bool, cond, ◌&&◌, ℕ, ◌+◌, ◌≤◌, ◌<◌, List, [], ◌++◌, length, eqb}
+use Rattle.std.specs.Prelude.{◌≡◌, refl, Bool, ◌&&◌, ℕ, ◌+◌, ◌≤◌, ◌<◌, List, [], ◌++◌, length, eqb}
 use Rattle.std.proofs.Common.{sym, ap, ◌∙◌, arith, append-nil, length-append}
 use Rattle.std.proofs.Math.Path.{ap₂}
 use Rattle.std.proofs.Math.Bool.{true, false, and-true, and-false}
 use borrow.Author.Tests.{eqb-true, le-leb, lt-leb}
 use Rattle.std.proofs.Math.Dec.{leb}
-use Rattle.tfs_spec.specs.Requests.{value, refused}
-use Rattle.tfs_spec.specs.Traces.{number, call_bytes, expected_bytes, record_bytes, all_below, call_numbers, expected_numbers, all_numbers_fit, write_record}
+use Rattle.tfs_spec.specs.Requests.{Answer, value, refused}
+use Rattle.tfs_spec.specs.Traces.{Record, Written, number, call_bytes, expected_bytes, record_bytes, all_below, call_numbers, expected_numbers, all_numbers_fit, write_record}
 use Rattle.tfs_trace_write.specs.Drafts.{draft_call, draft_result, draft_expected, draft_told}
-use Rattle.tfs_trace_write.specs.Puts.{put, put-start, put-behind}
+use Rattle.tfs_trace_write.specs.Puts.{put, put_start, put_behind}
 use Rattle.tfs_trace_write.specs.Halves.{call_half, granted_field, expected_half, half_fits, half_size, field_bytes, half_bytes, length-half}
 use Rattle.tfs_trace_write.specs.declared.Draft.{Draft}
 use Rattle.tfs_trace_write.specs.declared.Draft.TheVariants as draft
@@ -76,25 +76,30 @@ module _ (out nm bs : List ℕ) (d : Draft) (num v : ℕ) (x y : Half) (call : x
   unfolding write_record
   write-large h = rw (fits, h)
 
-  -- s and t are the buffers that the two puts left; the first half is n bytes long
-  module _ (n end : ℕ) (s t : List ℕ) (one : n ≡ half_size x (length nm) (length bs)) (both : end ≡ n + half_size y (length nm) (length bs)) (kept : length s ≡ length out)
-      (first : s ≡ cond (leb end (length out)) (put 0 (half_bytes x nm bs) out) out) (second : t ≡ cond (leb end (length s)) (put n (half_bytes y nm bs) s) s) where
-    pub write-short : length out < end → (refused 33 0 ≡ (write_record out (draft_told d nm bs num v)).answer) × (t ≡ (write_record out (draft_told d nm bs num v)).buffer)
+  -- the first half is n bytes long, the whole record end bytes
+  module _ (n end : ℕ) (one : n ≡ half_size x (length nm) (length bs)) (both : end ≡ n + half_size y (length nm) (length bs)) where
+    pub write-short : length out < end → write_record out (draft_told d nm bs num v) ≡ record { answer = refused 33 0; buffer = out }
     unfolding write_record
     write-short h =
-        let none : s ≡ out = rw (lt-leb end (length out) h) at first in
-        let same : t ≡ s = rw (kept, lt-leb end (length out) h) at second in
         let small : leb (length (record_bytes (draft_told d nm bs num v))) (length out) ≡ false = rw long (lt-leb (half_size x (length nm) (length bs) + half_size y (length nm) (length bs)) (length out) (omega arith)) in
-        let no : all_numbers_fit (draft_told d nm bs num v) && leb (length (record_bytes (draft_told d nm bs num v))) (length out) ≡ false = rw (small, and-false) in
-        (rw no, rw no (same ∙ none))
+        rw (small, and-false)
 
-    pub write_done : half_fits x (length nm) (length bs) && half_fits y (length nm) (length bs) ≡ true → end ≤ length out
-        → (value end ≡ (write_record out (draft_told d nm bs num v)).answer) × (t ≡ (write_record out (draft_told d nm bs num v)).buffer)
+    -- s and t are the buffers that the two puts left
+    pub write_done : (s t : List ℕ) → s ≡ put 0 (half_bytes x nm bs) out → t ≡ put n (half_bytes y nm bs) s
+        → half_fits x (length nm) (length bs) && half_fits y (length nm) (length bs) ≡ true → end ≤ length out
+        → write_record out (draft_told d nm bs num v) ≡ record { answer = value end; buffer = t }
     unfolding write_record
-    write_done f h =
-        let one-put : s ≡ put 0 (half_bytes x nm bs) out = rw (le-leb end (length out) h) at first in
-        let two-puts : t ≡ put n (half_bytes y nm bs) s = rw (kept, le-leb end (length out) h) at second in
+    write_done s t first second f h =
         let room : leb (length (record_bytes (draft_told d nm bs num v))) (length out) ≡ true = rw long (le-leb (half_size x (length nm) (length bs) + half_size y (length nm) (length bs)) (length out) (omega arith)) in
         let yes : all_numbers_fit (draft_told d nm bs num v) && leb (length (record_bytes (draft_told d nm bs num v))) (length out) ≡ true = rw (fits, f, room) in
-        let all = put-behind 0 n (half_bytes x nm bs) (half_bytes y nm bs) out s t (omega arith) one-put (omega (arith, length-half x nm bs)) two-puts in
-        (rw yes (ap value (omega (arith, long))), rw (yes, whole) (all ∙ put-start _ _))
+        let all = put_behind 0 n (half_bytes x nm bs) (half_bytes y nm bs) out s t (omega arith) first (omega (arith, length-half x nm bs)) second in
+        let size : end ≡ length (record_bytes (draft_told d nm bs num v)) = omega (arith, long) in
+        rw (yes, all ∙ put_start _ _, size, whole)
+
+-- an answer and a buffer that stand for what writing gives
+pub record Writes (out : List ℕ) (r : Record) (a : Answer) (b : List ℕ) : Type 0 where
+  pub answer : a ≡ (write_record out r).answer
+  pub buffer : b ≡ (write_record out r).buffer
+
+pub writes : {out : List ℕ} {r : Record} (a : Answer) (b : List ℕ) → write_record out r ≡ record { answer = a; buffer = b } → Writes out r a b
+writes a b e = record { answer = ap (λ (w : Written). w.answer) (sym e); buffer = ap (λ (w : Written). w.buffer) (sym e) }

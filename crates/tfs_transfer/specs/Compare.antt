@@ -1,74 +1,53 @@
 -- What comparing a file with bytes answers, in the rules' terms.
-use Rattle.std.specs.Prelude.{◌≡◌, refl, Bool, true, false, ◌&&◌, ℕ, ◌≤◌, List, ◌++◌, length, get_or, drop}
+use Rattle.std.specs.Prelude.{◌≡◌, refl, Bool, false, ◌&&◌, ℕ, Result, Ok, Err, List, ◌++◌, length, get_or, take, drop}
 use Rattle.std.proofs.Common.{sym, ap, ◌∙◌, take_at}
 use Rattle.std.proofs.lemmas.List.{length-replicate}
 use Rattle.lists.specs.Lists.{same_list, zeros, table}
 use Rattle.list_laws.specs.Test.{to-false, same-eq}
 use Rattle.list_laws.specs.Table.{length-table}
-use Rattle.tfs_spec.specs.Layout.{block, view, inode}
-use Rattle.tfs_spec.specs.Check.{consistent, check}
-use Rattle.tfs_spec.specs.Consistent.{File}
-use Rattle.tfs_spec.specs.Requests.{Answer, refused, refusal_of, granted, transferred, blocks_met, transfer_answer, Outcome, read_file}
+use Rattle.tfs_spec.specs.Layout.{block}
+use Rattle.tfs_spec.specs.Requests.{Answer, granted, count_of, transferred, blocks_met, read_file}
 use Rattle.tfs_spec.specs.Replays.{read_bytes}
+use Rattle.tfs_refusal.specs.declared.Refusal.{Refusal}
+use Rattle.tfs_refusal.specs.Refusal.{number}
 use Rattle.tfs_runs.specs.Place.{at}
-use Rattle.tfs_transfer.specs.Transfer.{Moves, allowed, read_all}
-use Rattle.tfs_transfer.specs.declared.compare.Compared.{Compared}
-use Rattle.tfs_transfer.specs.declared.compare.Compared.TheVariants.{Same, Differs, Refused}
+use Rattle.tfs_transfer.specs.declared.Reach.{Reach}
+use Rattle.tfs_transfer.specs.Transfer.{Reaches, allowed, read_all}
 
-abbrev pub compared_refusal : Compared → ℕ
-compared_refusal Same = 0
-compared_refusal Differs = 0
-compared_refusal (Refused num) = num
+-- the number of a refusal, 0 where there is none
+abbrev pub compared_refusal : Result Bool Refusal → ℕ
+compared_refusal (Ok same) = 0
+compared_refusal (Err r) = number r
 
-abbrev pub compared_same : Compared → Bool
-compared_same Same = true
-compared_same Differs = false
-compared_same (Refused num) = false
+abbrev pub compared_same : Result Bool Refusal → Bool
+compared_same (Ok same) = same
+compared_same (Err r) = false
 
--- 1 to 7 are the check's
-abbrev pub ComparedFits : Compared → Type 0
-ComparedFits Same = Unit {0}
-ComparedFits Differs = Unit {0}
-ComparedFits (Refused num) = 8 ≤ num
+-- the read puts r.count bytes into the buffer, by the inode ino
+module _ {img : List ℕ} {s o len : ℕ} {r : Reach} (t : Reaches img s o len r) where
+  pub answer_is : (read_file 512 img s o (zeros len)).answer ≡ transferred r.count (blocks_met 512 o r.count)
+  answer_is = rw length-replicate (allowed t.moves)
 
--- bytes compared with those that a read of outcome o has put into its buffer
-abbrev pub Compares : Outcome → List ℕ → Compared → Type 0
-Compares o bytes r = (compared_refusal r ≡ refusal_of o.answer) × (compared_same r ≡ (granted o.answer && same_list bytes (read_bytes o))) × ComparedFits r
+  module _ (ino : List ℕ) (e : ino ≡ block 512 img r.inode) where
+    abbrev file : ℕ → ℕ
+    file p = get_or img (at ino p) 0
 
--- a refusal of the transfer
-pub compare-refused : (img : List ℕ) (s o len num : ℕ) (bytes : List ℕ) → refused num 0 ≡ transfer_answer 512 (view 512 img) s o len → 8 ≤ num → Compares (read_file 512 img s o (zeros len)) bytes (Refused num)
-compare-refused img s o len num bytes e h = rw (length-replicate, ← e) (refl, refl, h)
+    gives : read_bytes (read_file 512 img s o (zeros len)) ≡ table file o r.count
+    gives =
+        let put : table file o r.count ++ drop r.count (zeros len) ≡ (read_file 512 img s o (zeros len)).buffer = read_all t ino e (zeros len) _ (sym (length-replicate len 0)) refl in
+        ap (take (count_of (read_file 512 img s o (zeros len)).answer)) (sym put)
+        ∙ ap (λ (x : Answer). take (count_of x) (table file o r.count ++ drop r.count (zeros len))) answer_is
+        ∙ take_at (table file o r.count) (drop r.count (zeros len)) r.count (length-table file o r.count)
 
--- the read puts c bytes into the buffer, by the inode ino
-module _ (img : List ℕ) (passed : check 512 img ≡ consistent) (s : ℕ) (f : File 512 (view 512 img) s) (o len c : ℕ) (a : Moves (view 512 img) s o len c) (ino : List ℕ) (e : ino ≡ block 512 img (inode (view 512 img) s)) where
-  abbrev got : Outcome
-  got = read_file 512 img s o (zeros len)
+    compared : (bytes : List ℕ) (same : Bool) → same ≡ same_list bytes (table file o r.count) → same ≡ (granted (read_file 512 img s o (zeros len)).answer && same_list bytes (read_bytes (read_file 512 img s o (zeros len))))
+    compared bytes same h =
+        h ∙ ap (same_list bytes) (sym gives) ∙ ap (λ (x : Answer). granted x && same_list bytes (read_bytes (read_file 512 img s o (zeros len)))) (sym answer_is)
 
-  abbrev file : ℕ → ℕ
-  file p = get_or img (at ino p) 0
+    pub compare_same : (bytes : List ℕ) (same : Bool) → length bytes ≡ r.count → same ≡ same_list bytes (table file o (length bytes)) → same ≡ (granted (read_file 512 img s o (zeros len)).answer && same_list bytes (read_bytes (read_file 512 img s o (zeros len))))
+    compare_same bytes same l e = compared bytes same (e ∙ ap (λ (n : ℕ). same_list bytes (table file o n)) l)
 
-  answer-is : (read_file 512 img s o (zeros len)).answer ≡ transferred c (blocks_met 512 o c)
-  answer-is = rw length-replicate (allowed a)
-
-  gives : read_bytes (read_file 512 img s o (zeros len)) ≡ table file o c
-  gives =
-      rw (answer-is, ← read_all img passed s f o len c a ino e (zeros len) (table file o c ++ drop c (zeros len)) (sym (length-replicate len 0)) refl)
-      (take_at (table file o c) (drop c (zeros len)) c (length-table file o c))
-
-  compared : (bytes : List ℕ) (r : Compared) → compared_refusal r ≡ 0 → ComparedFits r → compared_same r ≡ same_list bytes (table file o c) → Compares (read_file 512 img s o (zeros len)) bytes r
-  compared bytes r z h t = (
-    z ∙ ap refusal_of (sym answer-is),
-    t ∙ ap (same_list bytes) (sym gives) ∙ ap (λ (x : Answer). granted x && same_list bytes (read_bytes (read_file 512 img s o (zeros len)))) (sym answer-is),
-    h,
-  )
-
-  pub compare-lengths : (bytes : List ℕ) → (length bytes ≡ c → ⊥) → Compares (read_file 512 img s o (zeros len)) bytes Differs
-  compare-lengths bytes h =
-      compared bytes Differs refl tt
-      (sym (to-false (same_list bytes (table file o c)) (λ t. h (ap length (same-eq bytes (table file o c) t) ∙ length-table file o c))))
-
-  pub compare_same : (bytes : List ℕ) (t : Bool) → length bytes ≡ c → t ≡ same_list bytes (table file o (length bytes)) → t ≡ true → Compares (read_file 512 img s o (zeros len)) bytes Same
-  compare_same bytes t l e y = compared bytes Same refl tt (sym y ∙ e ∙ ap (λ (n : ℕ). same_list bytes (table file o n)) l)
-
-  pub compare-differs : (bytes : List ℕ) (t : Bool) → length bytes ≡ c → t ≡ same_list bytes (table file o (length bytes)) → t ≡ false → Compares (read_file 512 img s o (zeros len)) bytes Differs
-  compare-differs bytes t l e y = compared bytes Differs refl tt (sym y ∙ e ∙ ap (λ (n : ℕ). same_list bytes (table file o n)) l)
+  pub compare_lengths : (bytes : List ℕ) → (length bytes ≡ r.count → ⊥) → false ≡ (granted (read_file 512 img s o (zeros len)).answer && same_list bytes (read_bytes (read_file 512 img s o (zeros len))))
+  compare_lengths bytes h =
+      let ino : List ℕ = block 512 img r.inode in
+      compared ino refl bytes false
+      (sym (to-false (same_list bytes (table (file ino refl) o r.count)) (λ t. h (ap length (same-eq bytes (table (file ino refl) o r.count) t) ∙ length-table (file ino refl) o r.count))))

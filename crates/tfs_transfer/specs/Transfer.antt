@@ -2,18 +2,17 @@
 use Rattle.std.specs.Prelude.{◌≡◌, List, ◌++◌, length, take}
 use Rattle.std.proofs.Math.Path.{sym, ap}
 use Rattle.std.proofs.Common.{◌∙◌, arith}
-use Prim.Native.Nat.{ℕ, ◌+◌, ◌-◌, ◌≤◌, ◌<◌, min}
+use Prim.Native.Nat.{ℕ, ◌+◌, ◌-◌, ◌*◌, ◌≤◌, ◌<◌, min}
 use Rattle.std.proofs.Math.ListN.{get_or, drop}
 use borrow.Author.Tests.{lt-ltb, le-ltb}
 use Rattle.lists.specs.Lists.{table, store_bytes}
 use Rattle.tfs_spec.specs.Layout.{block, View, view, inode, size, place}
 use Rattle.tfs_spec.specs.Check.{consistent, check}
 use Rattle.tfs_spec.specs.Consistent.{File}
-use Rattle.tfs_spec.specs.Requests.{Answer, refused, transferred, counted, blocks_met, transfer_answer, read_buffer, write_image}
+use Rattle.tfs_spec.specs.Requests.{Answer, refused, transferred, counted, blocks_met, transfer_answer, read_buffer, read_file, write_image, write_file}
 use Rattle.tfs_runs.specs.Place.{at, Small, Inside}
 use Rattle.tfs_transfer.specs.declared.Reach.{Reach}
-use Rattle.tfs_transfer.specs.declared.Reach.TheVariants.{Bytes, Refused}
-use Rattle.tfs_steps.specs.Ready.{size_small, content-small, content-inside, place_is}
+use Rattle.tfs_steps.specs.Ready.{size_small, file-ready, content-small, content-inside, place_is}
 
 -- ---- c bytes are moved, from offset o on, for a buffer of len bytes
 pub record Moves (v : View) (s o len c : ℕ) : Type 0 where
@@ -41,35 +40,53 @@ module _ {v : View} {s o len c : ℕ} (a : Moves v s o len c) where
   unfolding transfer_answer
   allowed = rw (le-ltb (size v s) o a.starts, counted_is)
 
-module _ (img : List ℕ) (passed : check 512 img ≡ consistent) (s : ℕ) (f : File 512 (view 512 img) s) (o len c : ℕ) (a : Moves (view 512 img) s o len c) where
-  ends : o + c ≤ 65024
-  ends = omega (arith, reach a, size_small img passed s f)
-
-  -- so few that a 32-bit number tells them
-  pub few_bytes : c < 4294967296
-  few_bytes = omega (arith, ends)
-
-  -- ino is the file's inode
-  module _ (ino : List ℕ) (e : ino ≡ block 512 img (inode (view 512 img) s)) where
-    pub runs-ready : Small ino (o + c) × Inside ino (o + c) (length img) × (c ≤ len) × (o + c ≤ 65024)
-    runs-ready = (rw e (content-small img passed s f (o + c) (reach a)), rw e (content-inside img passed s f (o + c) (reach a)), omega (arith, a.count), ends)
-
-    places : at ino ≡ place 512 (view 512 img) s
-    places = ap at e ∙ place_is img passed s f
-
-    pub read_all : (buf last : List ℕ) → len ≡ length buf → last ≡ table (λ p. get_or img (at ino p) 0) o c ++ drop c buf → last ≡ read_buffer 512 (view 512 img) img s o buf
-    unfolding read_buffer
-    read_all buf last w r = r ∙ ap (λ (h : ℕ → ℕ). table (λ p. get_or img (h p) 0) o c ++ drop c buf) places ∙ rw (← w, counted_is a)
-
-    pub write-all : (buf last : List ℕ) → len ≡ length buf → last ≡ store_bytes (at ino) img o (take c buf) → last ≡ write_image 512 (view 512 img) img s o buf
-    unfolding write_image
-    write-all buf last w r = rw (r, places, ← w, counted_is a)
-
 -- ---- what the code finds of a transfer from o on
 abbrev pub reach_told : ℕ → Reach → Answer
-reach_told o (Bytes c b) = transferred c (blocks_met 512 o c)
-reach_told o (Refused num) = refused num 0
+reach_told o r = transferred r.count (blocks_met 512 o r.count)
 
-abbrev pub Reaches : List ℕ → ℕ → ℕ → ℕ → Reach → Type 0
-Reaches img s o len (Bytes c b) = Moves (view 512 img) s o len c × (b ≡ inode (view 512 img) s)
-Reaches img s o len (Refused num) = 8 ≤ num
+-- the bytes are the file's, its inode is block r.inode, and they lie in the image where this inode says
+pub record Reaches (img : List ℕ) (s o len : ℕ) (r : Reach) : Type 0 where
+  pub moves : Moves (view 512 img) s o len r.count
+  pub inode_at : r.inode ≡ inode (view 512 img) s
+  pub within : r.inode * 512 + 512 ≤ length img
+  pub ends : o + r.count ≤ 65024
+  pub small : Small (block 512 img r.inode) (o + r.count)
+  pub inside : Inside (block 512 img r.inode) (o + r.count) (length img)
+  pub places : at (block 512 img r.inode) ≡ place 512 (view 512 img) s
+
+pub reaches : (img : List ℕ) → check 512 img ≡ consistent → (s : ℕ) → File 512 (view 512 img) s → (o len : ℕ) (r : Reach) → Moves (view 512 img) s o len r.count → r.inode ≡ inode (view 512 img) s → Reaches img s o len r
+reaches img passed s f o len r m e =
+    record {
+      moves = m;
+      inode_at = e;
+      within = (file-ready img passed s f r.inode e).0;
+      ends = omega (arith, reach m, size_small img passed s f);
+      small = rw e (content-small img passed s f (o + r.count) (reach m));
+      inside = rw e (content-inside img passed s f (o + r.count) (reach m));
+      places = ap (λ (b : ℕ). at (block 512 img b)) e ∙ place_is img passed s f;
+    }
+
+module _ {img : List ℕ} {s o len : ℕ} {r : Reach} (t : Reaches img s o len r) where
+  -- so many as the buffer has, at most
+  pub fits_buffer : r.count ≤ len
+  fits_buffer = omega (arith, t.moves.count)
+
+  -- ino is the file's inode
+  module _ (ino : List ℕ) (e : ino ≡ block 512 img r.inode) where
+    pub run_small : Small ino (o + r.count)
+    run_small = rw e t.small
+
+    pub run_inside : Inside ino (o + r.count) (length img)
+    run_inside = rw e t.inside
+
+    places_at : at ino ≡ place 512 (view 512 img) s
+    places_at = ap at e ∙ t.places
+
+    pub read_all : (buf last : List ℕ) → len ≡ length buf → last ≡ table (λ p. get_or img (at ino p) 0) o r.count ++ drop r.count buf → last ≡ (read_file 512 img s o buf).buffer
+    unfolding read_buffer
+    read_all buf last w g =
+        rw (← w, allowed t.moves) (g ∙ ap (λ (h : ℕ → ℕ). table (λ p. get_or img (h p) 0) o r.count ++ drop r.count buf) places_at ∙ rw (counted_is t.moves))
+
+    pub write_all : (buf last : List ℕ) → len ≡ length buf → last ≡ store_bytes (at ino) img o (take r.count buf) → last ≡ (write_file 512 img s o buf).image
+    unfolding write_image
+    write_all buf last w g = rw (← w, allowed t.moves) (rw (g, places_at, counted_is t.moves))

@@ -10,25 +10,12 @@ use Rattle.tfs_spec.specs.Check.{consistent, check}
 use Rattle.tfs_spec.specs.Requests.{Answer, done, refused, granted, Outcome, create, write, creates, writes, perform, changes, fetch}
 use Rattle.tfs_proofs.specs.Proved.{statements}
 use Rattle.timing_spec.specs.Timing.{TIMING, Timing, timing_bytes, timing_of, standing, sized, made, fetched, store_room, store_answer, store_changes, store, store_block, open_room, open_answer, open_lid, open_lid_block, not_booted, booted, boot_on, boot}
-use Rattle.timing_spec.specs.Timing as timing
 use Rattle.timing_proofs.specs.Form.{word_number}
 use Rattle.timing_proofs.specs.Verdicts.{by-check, open-answer, boot-by, fault-law}
 use Rattle.timing_proofs.specs.Rules.{by_number, if-same, if-other, other-size}
 use Rattle.timing_proofs.specs.Rules as rules
 use Rattle.timing_proofs.specs.Blocks.{write-block}
-use Rattle.tfs.specs.Told.{done_told, DoneFits}
-use Rattle.tfs.specs.declared.Done.{Done}
-use Rattle.timing.specs.declared.Booted as code
-use Rattle.timing.specs.Told.{booted_told}
 use Rattle.timing.specs.Rooms.{sound, stores-by}
-
--- an answer of boot with its values
-pub told-as : (b : code.Booted) (d : Done) (vs : List ℕ) → b.answer ≡ d → b.values ≡ vs → booted_told b ≡ record { answer = done_told d; values = vs }
-told-as b d vs e f = λ i. record { answer = done_told (e i); values = f i }
-
--- so what it tells is another telling that this one is, and its numbers are those of its answer
-pub answered-as : (b : code.Booted) (d : Done) (vs : List ℕ) (x : timing.Booted) → b.answer ≡ d → b.values ≡ vs → DoneFits d → record { answer = done_told d; values = vs } ≡ x → (booted_told b ≡ x) × DoneFits b.answer
-answered-as b d vs x e f fits told = (told-as b d vs e f ∙ told, subst DoneFits (sym e) fits)
 
 -- ---- boot, by the bytes
 module _ (bytes : List ℕ) (board maker : ℕ) (long : length bytes ≡ 64) where

@@ -7,9 +7,14 @@ use Rattle.tfs_spec.specs.Check.{Verdict, consistent, broken, check}
 use Rattle.tfs_spec.specs.Consistent.{Consistent, Broken, short, unmagical, unlabelled, malformed, repeated, oversized, misnumbered, twice, unmarked, stray, FirstBroken}
 use Rattle.tfs_spec.specs.Requests.{Answer, done, refused, granted, refusal_of, Outcome, checked}
 use Rattle.tfs_proofs.specs.Proved.{statements}
-use Rattle.tfs.specs.Told.{fault_number, FaultFits}
-use Rattle.tfs.specs.declared.Fault.{Fault}
-use Rattle.tfs.specs.declared.Fault.TheVariants.{Header, Slot, Block}
+use Rattle.tfs_refusal.specs.declared.Fault.{Fault}
+use Rattle.tfs_refusal.specs.declared.Fault.TheVariants.{ImageTooShort, BadMagic, BadLabel, BadSlot, BadInode, BlockTwice, MapWrong}
+use Rattle.tfs_refusal.specs.declared.Refusal.{Refusal}
+use Rattle.tfs_refusal.specs.declared.Refusal.TheVariants.{NameNotAllowed, SizeTooLarge, NameExists, NoFreeSlot, NoRoom, NoSuchName, NoSuchSlot, OffsetPastEnd, NoSuchStore}
+use Rattle.tfs_refusal.specs.Refusal.{rule, number}
+use Rattle.timing.specs.declared.error.Error.{Error}
+use Rattle.timing.specs.declared.error.Error.TheVariants.{Inconsistent, Refused, NoBoard, WrongSize, OtherBoard, OtherMaker}
+use Rattle.timing.specs.Told.{error_number}
 use Rattle.timing_spec.specs.Timing.{standing, sized, store_room, store_answer, open_room, open_answer, open_lid}
 use Rattle.timing_proofs.specs.Verdicts.{by-check, store-answer, open-answer, fault-law}
 use Rattle.timing_proofs.specs.Rules.{by_number, if-same, if-other}
@@ -28,10 +33,34 @@ fault-low (twice b o q h e f g) = omega arith
 fault-low (unmarked b h f g) = omega arith
 fault-low (stray b h f g) = omega arith
 
-pub fault-number : (f : Fault) → FaultFits f → fault_number f ≤ 7
-fault-number (Header n) h = omega arith
-fault-number (Slot n s) h = omega arith
-fault-number (Block n b) h = omega arith
+-- the refusal of a name that no file has is the only one of its number
+rule-other : (f : Fault) → rule f ≢ 13
+rule-other ImageTooShort e = omega (arith, e)
+rule-other BadMagic e = omega (arith, e)
+rule-other BadLabel e = omega (arith, e)
+rule-other (BadSlot s) e = omega (arith, e)
+rule-other (BadInode s) e = omega (arith, e)
+rule-other (BlockTwice b) e = omega (arith, e)
+rule-other (MapWrong b) e = omega (arith, e)
+
+refusal-other : (r : Refusal) → r ≢ NoSuchName → number r ≢ 13
+refusal-other NameNotAllowed other e = omega (arith, e)
+refusal-other SizeTooLarge other e = omega (arith, e)
+refusal-other NameExists other e = omega (arith, e)
+refusal-other NoFreeSlot other e = omega (arith, e)
+refusal-other NoRoom other e = omega (arith, e)
+refusal-other NoSuchName other e = absurd (other refl)
+refusal-other NoSuchSlot other e = omega (arith, e)
+refusal-other OffsetPastEnd other e = omega (arith, e)
+refusal-other NoSuchStore other e = omega (arith, e)
+
+pub error-other : (e : Error) → e ≢ Refused NoSuchName → error_number e ≢ 13
+error-other (Inconsistent f) other e = rule-other f e
+error-other (Refused r) other e = refusal-other r (λ q. other (ap Refused q)) e
+error-other NoBoard other e = omega (arith, e)
+error-other WrongSize other e = omega (arith, e)
+error-other OtherBoard other e = omega (arith, e)
+error-other OtherMaker other e = omega (arith, e)
 
 module _ (img : List ℕ) where
   pub sound : check 512 img ≡ consistent → Consistent 512 img

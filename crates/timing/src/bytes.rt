@@ -1,6 +1,6 @@
 // The 64 bytes of the timing file: made of numbers and values, and read back. All numbers are big-endian.
-ghost use Rattle.std.specs.Prelude.{◌≡◌, ◌++◌, ◌+◌, ◌*◌, ◌≤◌, length, take};
-ghost use Rattle.lists.specs.Lists.{word_of, word, bytes4};
+ghost use Rattle.std.specs.Prelude.{◌≡◌, ◌++◌, ◌+◌, ◌≤◌, length, take};
+ghost use Rattle.lists.specs.Lists.{word, bytes4};
 ghost use Rattle.timing_spec.specs.Timing.{bytes2, timing_bytes, pair_at, timing_of};
 ghost use Rattle.timing.specs.Told.{timing};
 
@@ -13,26 +13,13 @@ pub const MAKER: usize = 4;
 const FIRST: usize = 8;
 
 // ---- reading
-// The number of two bytes, the first the most significant.
-fn pair_of(a: u8, b: u8) -> u16
-    ensures { result ≡ a * 256 + b }
-{
-    (a as u16) * 256 + b as u16
-}
-
-// The number of four.
-fn word_of(a: u8, b: u8, c: u8, d: u8) -> u32
-    ensures { result ≡ word_of a b c d }
-{
-    (((a as u32) * 256 + b as u32) * 256 + c as u32) * 256 + d as u32
-}
-
 // The number in the four bytes at index `at`.
+#[tactic(auto, unfolding(lists::specs::Lists::word))]
 pub fn number_at(bytes: &[u8], at: usize) -> u32
     requires { at + 4 ≤ length bytes.now }
     ensures { result ≡ word bytes.now at }
 {
-    word_of(bytes[at], bytes[at + 1], bytes[at + 2], bytes[at + 3])
+    u32::from_be_bytes([bytes[at], bytes[at + 1], bytes[at + 2], bytes[at + 3]])
 }
 
 // The value in the two bytes at index `at`.
@@ -40,7 +27,7 @@ fn value_at(bytes: &[u8], at: usize) -> u16
     requires { at + 2 ≤ length bytes.now }
     ensures { result ≡ pair_at bytes.now at }
 {
-    pair_of(bytes[at], bytes[at + 1])
+    u16::from_be_bytes([bytes[at], bytes[at + 1]])
 }
 
 // The values in the bytes of the file.
@@ -49,10 +36,8 @@ pub fn values_of(bytes: &[u8]) -> [u16; VALUES]
     ensures { result ≡ (timing_of bytes.now).values }
 {
     let mut values = [0u16; VALUES];
-    let mut i = 0;
-    while i < VALUES {
+    for i in 0..VALUES {
         values[i] = value_at(bytes, FIRST + 2 * i);
-        i += 1;
     }
     values
 }
@@ -63,10 +48,7 @@ fn put_number(bytes: &mut [u8], at: usize, n: u32)
     requires { at + 4 ≤ length bytes.old }
     ensures { take (at + 4) bytes.new ≡ take at bytes.old ++ bytes4 n }
 {
-    bytes[at] = (n / 256 / 256 / 256) as u8;
-    bytes[at + 1] = (n / 256 / 256 % 256) as u8;
-    bytes[at + 2] = (n / 256 % 256) as u8;
-    bytes[at + 3] = (n % 256) as u8;
+    bytes[at..at + 4].copy_from_slice(&n.to_be_bytes());
 }
 
 // Puts a value into the two bytes at index `at`.
@@ -74,8 +56,7 @@ fn put_value(bytes: &mut [u8], at: usize, n: u16)
     requires { at + 2 ≤ length bytes.old }
     ensures { take (at + 2) bytes.new ≡ take at bytes.old ++ bytes2 n }
 {
-    bytes[at] = (n / 256 % 256) as u8;
-    bytes[at + 1] = (n % 256) as u8;
+    bytes[at..at + 2].copy_from_slice(&n.to_be_bytes());
 }
 
 // The bytes of the file.
@@ -86,10 +67,8 @@ pub fn bytes_of(board: u32, maker: u32, values: &[u16]) -> [u8; SIZE]
     let mut bytes = [0u8; SIZE];
     put_number(&mut bytes, 0, board);
     put_number(&mut bytes, MAKER, maker);
-    let mut i = 0;
-    while i < VALUES {
+    for i in 0..VALUES {
         put_value(&mut bytes, FIRST + 2 * i, values[i]);
-        i += 1;
     }
     bytes
 }

@@ -2,13 +2,12 @@
 #![tactic(auto)]
 
 ghost use Rattle.std.specs.Prelude.{◌≡◌};
-ghost use Rattle.tfs.specs.Told.{fault_answer, answer_told, done_told};
-ghost use Rattle.timing.specs.Told.{timing, booted_told};
+ghost use Rattle.tfs_spec.specs.Requests.{done, value};
+ghost use Rattle.timing.specs.Told.{timing, error_number, error_place, answer_told, booted_told};
 ghost use Rattle.timing_spec.specs.Timing as rules;
 ghost use Rattle.timing_c.specs.Result.{of_numbers, result_of, booted_of};
 
-use tfs::{Answer, Done, Fault};
-use timing::{Booted, VALUES};
+use timing::{Error, VALUES};
 
 // The refusal's number, 0 for granted; its place; the number of a block.
 #[repr(C)]
@@ -34,60 +33,58 @@ fn granted(value: u32) -> TimingResult
     TimingResult {
         refusal: 0,
         place: 0,
-        value: value,
+        value,
     }
 }
 
-fn refused(number: u32, place: u32) -> TimingResult
-    ensures { result ≡ of_numbers number place 0 }
+fn refused(error: Error) -> TimingResult
+    ensures { result ≡ of_numbers (error_number error) (error_place error) 0 }
 {
     TimingResult {
-        refusal: number,
-        place: place,
+        refusal: error.number(),
+        place: error.place(),
         value: 0,
     }
 }
 
-fn of_fault(f: Fault) -> TimingResult
-    ensures { result ≡ result_of (fault_answer f) }
+#[tactic(auto, unfolding(crate::specs::Result::result_of))]
+fn of_done(answer: Result<(), Error>) -> TimingResult
+    ensures { result ≡ result_of (answer_told (λ _. done) answer) }
 {
-    match f {
-        Fault::Header(n) => refused(n, 0),
-        Fault::Slot(n, s) => refused(n, s),
-        Fault::Block(n, b) => refused(n, b),
+    match answer {
+        Ok(()) => granted(0),
+        Err(error) => refused(error),
     }
 }
 
-fn of_done(d: Done) -> TimingResult
-    ensures { result ≡ result_of (done_told d) }
+#[tactic(auto, unfolding(crate::specs::Result::result_of))]
+fn of_answer(answer: Result<u32, Error>) -> TimingResult
+    ensures { result ≡ result_of (answer_told value answer) }
 {
-    match d {
-        Done::Granted => granted(0),
-        Done::Refused(n) => refused(n, 0),
-        Done::Inconsistent(f) => of_fault(f),
+    match answer {
+        Ok(block) => granted(block),
+        Err(error) => refused(error),
     }
 }
 
-fn of_answer(a: Answer) -> TimingResult
-    ensures { result ≡ result_of (answer_told a) }
+#[tactic(auto, unfolding(crate::specs::Result::result_of))]
+fn of_boot(answer: Result<[u16; VALUES], Error>) -> TimingBooted
+    ensures { result ≡ booted_of (booted_told answer) }
 {
-    match a {
-        Answer::Granted(x) => granted(x),
-        Answer::Refused(n) => refused(n, 0),
-        Answer::Inconsistent(f) => of_fault(f),
-    }
-}
-
-fn of_boot(b: Booted) -> TimingBooted
-    ensures { result ≡ booted_of (booted_told b) }
-{
-    let answer = b.answer;
-    let values = b.values;
-    let told = of_done(answer);
-    TimingBooted {
-        refusal: told.refusal,
-        place: told.place,
-        values: values,
+    match answer {
+        Ok(values) => TimingBooted {
+            refusal: 0,
+            place: 0,
+            values,
+        },
+        Err(error) => {
+            let told = refused(error);
+            TimingBooted {
+                refusal: told.refusal,
+                place: told.place,
+                values: [0; VALUES],
+            }
+        }
     }
 }
 

@@ -1,10 +1,7 @@
--- The bytes from index i on are left.
-use Rattle.std.proofs.Common.{◌≡◌, ◌-◌, ◌≤◌, length, drop}
+-- The bytes from the index on are left.
+use Rattle.std.proofs.Common.{◌≡◌, drop}
 use Rattle.packed.specs.Hash.{hash_on}
 use Rattle.packed.proofs.hash_on.Given as goal
 
-abbrev pub invariant-loop-i : goal.invariant-loop-i
-invariant-loop-i l = (l.i ≤ length l.s) × (hash_on l.h (drop l.i l.s) ≡ hash_on l.hash l.s)
-
-abbrev pub decreases-loop-i : goal.decreases-loop-i
-decreases-loop-i l = length l.s - l.i
+abbrev pub invariant-loop-b : goal.invariant-loop-b
+invariant-loop-b l = hash_on l.h (drop l.b-index l.s) ≡ hash_on l.hash l.s

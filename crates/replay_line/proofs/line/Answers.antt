@@ -1,14 +1,16 @@
-use mathlib.Core.Path.{sym, ◌∙◌}
-use Rattle.std.proofs.Common.{rules}
-use Rattle.replay_line.specs.Line.{line-runs, line-stops}
+use Rattle.std.proofs.Common.{sym, ap, ◌∙◌}
+use Rattle.tfs_spec.specs.Replays.{line_numbers}
+use Rattle.replay_line.proofs.Files.{program_by}
 use Rattle.replay_line.proofs.line.Goals as goal
 
-pub returns-then-replayable : goal.returns-then-replayable
-returns-then-replayable c =
-    let ok = sym c.replayable.ensures ∙ c.if-replayable.true in
-    (line-runs c.args.image.now c.args.trace.now c.args.out.now c.line_of_replay.new.out c.args.image_read c.args.trace_read c.line_of_replay.result (search rules) ok c.line_of_replay.ensures.0 c.line_of_replay.ensures.1 c.line_of_replay.ensures.2, c.line_of_replay.ensures.1, rw ok c.line_of_replay.ensures.3)
+pub returns-then-not-replayable-clause-summary : goal.returns-then-not-replayable-clause-summary
+returns-then-not-replayable-clause-summary c =
+    program_by c.args.image.now c.args.trace.now c.args.image_read c.args.trace_read _ (sym c.replayable.ensures ∙ c.if-not-replayable.true)
 
-pub returns : goal.returns
-returns c =
-    let ok = sym c.replayable.ensures ∙ c.if-replayable.false in
-    (line-stops c.args.image.now c.args.trace.now c.args.out.now c.line_of_trouble.new.out c.args.image_read c.args.trace_read c.line_of_trouble.result (search rules) ok c.line_of_trouble.ensures.0 c.line_of_trouble.ensures.1 c.line_of_trouble.ensures.2, c.line_of_trouble.ensures.1, rw ok)
+pub returns-in-Ok-clause-summary : goal.returns-in-Ok-clause-summary
+returns-in-Ok-clause-summary c =
+    ap line_numbers c.in-Ok.ensures.result ∙ program_by c.args.image.now c.args.trace.now c.args.image_read c.args.trace_read _ (sym c.replayable.ensures ∙ c.if-not-replayable.false)
+
+pub returns-in-Err-clause-summary : goal.returns-in-Err-clause-summary
+returns-in-Err-clause-summary c =
+    ap line_numbers c.in-Err.ensures.result ∙ program_by c.args.image.now c.args.trace.now c.args.image_read c.args.trace_read _ (sym c.replayable.ensures ∙ c.if-not-replayable.false)

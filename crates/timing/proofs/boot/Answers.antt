@@ -1,22 +1,15 @@
-use mathlib.Core.Path.{sym, ap, subst, ◌∙◌}
+use mathlib.Core.Path.{◌∙◌}
 use lib.ListN.{take}
-use Rattle.lists.specs.Lists.{zeros}
-use Rattle.tfs_spec.specs.Requests.{refused}
-use Rattle.tfs.specs.declared.Done.TheVariants.{Refused, Inconsistent}
-use Rattle.tfs.specs.Told.{fault_answer, done_told, DoneFits}
-use Rattle.timing.specs.Told.{Seen}
-use Rattle.timing.specs.Answers.{told-as, boot-seen, boot-refused}
+use Rattle.std.proofs.lemmas.Result.{err_from_is_err_and}
+use Rattle.timing.specs.Told.{error_told}
+use Rattle.timing.specs.Answers.{boot-seen, boot-refused}
 use Rattle.timing.proofs.boot.Goals as goal
 
-pub returns-in-Granted : goal.returns-in-Granted
-returns-in-Granted c =
-    let seen = subst (Seen c.args.image.now c.look.new.buf) c.in-Granted.is c.look.ensures.1 in
-    (c.judge.ensures.0 ∙ boot-seen c.args.image.now (take 64 c.look.new.buf) seen.0 seen.1 c.args.board c.args.maker, c.judge.ensures.1)
+pub returns-in_err-look : goal.returns-in_err-look
+returns-in_err-look c =
+    let made = err_from_is_err_and c.from_residual.result c.from_residual.ensures.1 in
+    rw (made.1, made.2) (boot-refused c.args.image.now (error_told c.in_err-look.field-0.0) c.in_err-look.ensures.answer (λ t. t) c.args.board c.args.maker)
 
-pub returns-in-Refused : goal.returns-in-Refused
-returns-in-Refused c =
-    (told-as c.answered.result (Refused c.in-Refused.n) (zeros 28) c.answered.ensures.0 c.answered.ensures.1 ∙ boot-refused c.args.image.now (refused c.in-Refused.n 0) (ap done_told (sym c.in-Refused.is) ∙ c.look.ensures.0) (λ t. t) c.args.board c.args.maker, subst DoneFits (c.in-Refused.is ∙ sym c.answered.ensures.0) c.look.ensures.2)
-
-pub returns-in-Inconsistent : goal.returns-in-Inconsistent
-returns-in-Inconsistent c =
-    (told-as c.answered-in-Inconsistent.result (Inconsistent c.in-Inconsistent.f) (zeros 28) c.answered-in-Inconsistent.ensures.0 c.answered-in-Inconsistent.ensures.1 ∙ boot-refused c.args.image.now (fault_answer c.in-Inconsistent.f) (ap done_told (sym c.in-Inconsistent.is) ∙ c.look.ensures.0) (λ t. t) c.args.board c.args.maker, subst DoneFits (c.in-Inconsistent.is ∙ sym c.answered-in-Inconsistent.ensures.0) c.look.ensures.2)
+pub returns : goal.returns
+returns c =
+    c.judge.ensures ∙ boot-seen c.args.image.now (take 64 c.look.new.buf) c.in_ok-look.ensures.seen.0 c.in_ok-look.ensures.seen.1 c.args.board c.args.maker

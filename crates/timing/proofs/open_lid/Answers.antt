@@ -1,20 +1,18 @@
-use mathlib.Core.Path.{sym, ap, subst, ◌∙◌}
-use Rattle.tfs_spec.specs.Requests.{refused}
-use Rattle.tfs.specs.Told.{fault_answer, done_told, DoneFits}
+use mathlib.Core.Path.{◌∙◌}
+use Rattle.std.proofs.lemmas.Result.{err_from_is_err_and}
 use Rattle.timing.specs.Answers.{open-put, open-says, open_stays}
 use Rattle.timing.proofs.open_lid.Goals as goal
 
-pub returns-in-Granted : goal.returns-in-Granted
-returns-in-Granted c =
-    let done-said = ap done_told (sym c.in-Granted.is) ∙ c.look.ensures.0 in
-    (done-said ∙ open-says c.args.image.now, c.put.ensures ∙ open-put c.args.image.now done-said, tt)
+pub returns-in_err-look-clause-answer : goal.returns-in_err-look-clause-answer
+returns-in_err-look-clause-answer c =
+    let made = err_from_is_err_and c.from_residual.result c.from_residual.ensures.1 in
+    rw (made.1, made.2) (c.in_err-look.ensures.answer ∙ open-says c.args.image.now)
 
-pub returns-in-Refused : goal.returns-in-Refused
-returns-in-Refused c =
-    let said = ap done_told (sym c.in-Refused.is) ∙ c.look.ensures.0 in
-    (said ∙ open-says c.args.image.now, open_stays c.args.image.now (refused c.in-Refused.n 0) said (λ t. t), subst DoneFits c.in-Refused.is c.look.ensures.2)
+pub returns-in_err-look-clause-image : goal.returns-in_err-look-clause-image
+returns-in_err-look-clause-image c = open_stays c.args.image.now _ c.in_err-look.ensures.answer (λ t. t)
 
-pub returns-in-Inconsistent : goal.returns-in-Inconsistent
-returns-in-Inconsistent c =
-    let said = ap done_told (sym c.in-Inconsistent.is) ∙ c.look.ensures.0 in
-    (said ∙ open-says c.args.image.now, open_stays c.args.image.now (fault_answer c.in-Inconsistent.f) said (λ t. t), subst DoneFits c.in-Inconsistent.is c.look.ensures.2)
+pub returns-clause-answer : goal.returns-clause-answer
+returns-clause-answer c = c.in_ok-look.ensures.answer ∙ open-says c.args.image.now
+
+pub returns-clause-image : goal.returns-clause-image
+returns-clause-image c = c.put.ensures ∙ open-put c.args.image.now c.in_ok-look.ensures.answer

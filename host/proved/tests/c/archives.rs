@@ -60,7 +60,7 @@ fn export_the_functions_of_the_headers_and_nothing_else() {
 #[test]
 fn need_what_their_headers_say() {
     let moving = ["memcpy", "memmove", "memset"].as_slice();
-    let needs = [&["memset"], moving, moving, &["memset"]];
+    let needs = [&["memset"], &moving[1..], moving, &["memset"]];
     let headers = ["timing.h", "tfs_trace.h", "tfs.h", "romfs.h"];
     for ((library, header), needs) in LIBRARIES.into_iter().zip(headers).zip(needs) {
         let needed: Vec<String> = symbols("-u", library).into_iter().collect();

@@ -1,37 +1,37 @@
-use Rattle.std.proofs.Common.{rules}
-use mathlib.Core.Path.{sym, ◌∙◌}
-use native.Mathlib.Omega.{arith}
-use Rattle.romfs_links.specs.Facts.{reach-room}
+use Rattle.std.proofs.Common.{sym, ◌∙◌, arith, ne_eqb}
+use Rattle.romfs_headers.proofs.Found.{some-is, none-is}
+use Rattle.romfs_links.specs.Facts.{reach_room}
 use Rattle.romfs.proofs.Laws as laws
 use Rattle.romfs.proofs.steps.match_from.Goals as goal
 
-pub loop-full-init : goal.loop-full-init
-loop-full-init c = (c.requires.1, laws.match-start _ _ _ _)
+pub returns-then-name_is-clause-first : goal.returns-then-name_is-clause-first
+returns-then-name_is-clause-first c =
+    let i = c.loop-header.invariant in
+    let long = rw (c.named-header.ensures, c.header.ensures.image, c.header.ensures.at) at c.named-header.result.long in
+    let t = laws.name-test _ _ _ _ _ c.name_is.ensures long in
+    let here = laws.match-here _ _ c.args.tree.walked _ i.0 _ _ i.1 (sym t ∙ c.if-name_is.true) in
+    rw (← here, ne_eqb _ _ (laws.reached-some i.0.reached))
 
-pub overflow_add-p : goal.overflow_add-p
-overflow_add-p c =
-    record { fits = omega (arith, reach-room _ _ c.requires.0 _ c.loop-full.invariant.0, c.requires.0.whole.small) }
+pub returns-in_err-p-clause-first : goal.returns-in_err-p-clause-first
+returns-in_err-p-clause-first c =
+    let i = c.loop-header.invariant in
+    let long = rw (c.named-header.ensures, c.header.ensures.image, c.header.ensures.at) at c.named-header.result.long in
+    let t = laws.name-test _ _ _ _ _ c.name_is.ensures long in
+    let e = none-is _ _ (rw (c.named-header.ensures, c.header.ensures.image, c.header.ensures.at) at c.in_err-p.ensures.next) in
+    rw (← laws.match_none _ _ c.args.tree.walked _ i.0 _ _ i.1 (sym t ∙ c.if-name_is.false) e) c.from_residual.ensures
 
-pub name_length-n-requires : goal.name_length-n-requires
-name_length-n-requires c = (c.requires.0.whole, omega (arith, reach-room _ _ c.requires.0 _ c.loop-full.invariant.0))
+pub loop-header-smaller : goal.loop-header-smaller
+loop-header-smaller c =
+    let i = c.loop-header.invariant in
+    let e = some-is _ _ (rw (c.named-header.ensures, c.header.ensures.image, c.header.ensures.at) at c.in_ok-p.ensures.next) in
+    omega (arith, reach_room _ _ c.args.tree.walked _ i.0, laws.on-further _ _ c.args.tree.walked _ i.0 _ e.0 e.1)
 
-pub returns-then-name_is : goal.returns-then-name_is
-returns-then-name_is c =
-    let t = laws.name-test _ _ _ _ _ c.name_is.ensures c.name_length-n.ensures.0 in
-    (laws.match-here _ _ c.requires.0 _ c.loop-full.invariant.0 _ _ c.loop-full.invariant.1 (sym t ∙ c.if-name_is.true), omega (arith, reach-room _ _ c.requires.0 _ c.loop-full.invariant.0, c.requires.0.whole.small))
-
-pub returns-then-next-eq0 : goal.returns-then-next-eq0
-returns-then-next-eq0 c =
-    let t = laws.name-test _ _ _ _ _ c.name_is.ensures c.name_length-n.ensures.0 in
-    (laws.match_none _ _ c.requires.0 _ c.loop-full.invariant.0 _ _ c.loop-full.invariant.1 (sym t ∙ c.if-name_is.false) (sym c.next_of-next.ensures.0 ∙ c.if-next-eq0.true), search rules)
-
-pub loop-full-smaller : goal.loop-full-smaller
-loop-full-smaller c =
-    omega (arith, reach-room _ _ c.requires.0 _ c.loop-full.invariant.0, laws.on-further _ _ c.requires.0 _ c.loop-full.invariant.0 _ c.next_of-next.ensures.0 c.if-next-eq0.false)
-
-pub loop-full-preserved : goal.loop-full-preserved
-loop-full-preserved c =
-    let t = laws.name-test _ _ _ _ _ c.name_is.ensures c.name_length-n.ensures.0 in (
-      laws.on-reached _ _ c.requires.0 _ c.loop-full.invariant.0 _ c.next_of-next.ensures.0 c.if-next-eq0.false,
-      laws.match-on _ _ c.requires.0 _ c.loop-full.invariant.0 _ _ c.loop-full.invariant.1 (sym t ∙ c.if-name_is.false) _ c.next_of-next.ensures.0 c.if-next-eq0.false,
+pub loop-header-preserved : goal.loop-header-preserved
+loop-header-preserved c =
+    let i = c.loop-header.invariant in
+    let long = rw (c.named-header.ensures, c.header.ensures.image, c.header.ensures.at) at c.named-header.result.long in
+    let t = laws.name-test _ _ _ _ _ c.name_is.ensures long in
+    let e = some-is _ _ (rw (c.named-header.ensures, c.header.ensures.image, c.header.ensures.at) at c.in_ok-p.ensures.next) in (
+      laws.on-reached _ _ c.args.tree.walked _ i.0 _ e.0 e.1,
+      laws.match-on _ _ c.args.tree.walked _ i.0 _ _ i.1 (sym t ∙ c.if-name_is.false) _ e.0 e.1,
     )

@@ -1,11 +1,6 @@
-use mathlib.Core.Path.{◌≡◌}
-use Prim.Native.Nat.{◌≤◌, ◌-◌}
-use lib.ListN.{length, drop}
+use Rattle.std.proofs.Common.{◌≡◌, ◌*◌, drop}
 use Rattle.lists.specs.Lists.{same_list}
 use Rattle.spans.proofs.search.same_long.Given as goal
 
-abbrev pub invariant-loop-i : goal.invariant-loop-i
-invariant-loop-i l = (l.i ≤ length l.a) × (length l.a ≡ length l.b) × (same_list (drop l.i l.a) (drop l.i l.b) ≡ same_list l.a l.b)
-
-abbrev pub decreases-loop-i : goal.decreases-loop-i
-decreases-loop-i l = length l.a - l.i
+abbrev pub invariant-loop-k : goal.invariant-loop-k
+invariant-loop-k l = same_list (drop (512 * l.k) l.a) (drop (512 * l.k) l.b) ≡ same_list l.a l.b

@@ -12,5 +12,5 @@ unfolding with_part part
 returns c =
     let field : length (part 4 16 c.put32.new.p) ≡ 16 = length_part 4 16 c.put32.new.p (omega (arith, c.put32.auto.p)) in
     let blank = c.zero.ensures ∙ ap zeros field in
-    rw (add-sub_cancel_left, c.copy.ensures, blank, c.put32.ensures)
+    rw (add-sub_cancel_left, c.copy_from_slice.ensures.after, blank, c.put32.ensures)
     (entry-written c.args.inode c.args.name.now c.args.slot.now (omega arith) c.requires.0)

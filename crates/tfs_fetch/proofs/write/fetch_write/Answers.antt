@@ -1,29 +1,6 @@
-use mathlib.Core.Path.{◌≡◌, refl, sym, ap, ◌∙◌}
-use Rattle.tfs_spec.specs.Layout.{view}
-use Rattle.tfs_spec.specs.Requests.{lookup, in_slot}
-use Rattle.tfs_facts.specs.Fetched.{fetch-denied, fetch-write}
-use Rattle.tfs_facts.specs.Lookups.{lookup-file, lookup-number}
-use Rattle.tfs_dir.specs.Lookup.{lookup_told}
-use Rattle.tfs_steps.specs.Ready.{long}
-use Rattle.tfs_fetch.specs.Stored.{refused-so}
+use Rattle.std.proofs.Common.{sym}
+use Rattle.tfs_facts.specs.Fetched.{fetch-write}
 use Rattle.tfs_fetch.proofs.write.fetch_write.Goals as goal
 
-pub look_up-requires : goal.look_up-requires
-look_up-requires c = long _ c.requires
-
-pub file_store-requires : goal.file_store-requires
-file_store-requires c =
-    let slot : lookup 512 (view 512 c.args.image.now) c.args.name.now ≡ in_slot c.in-InSlot.s = sym c.look_up.ensures ∙ ap lookup_told c.in-InSlot.is in
-    (c.requires, (lookup-file 512 _ _ _ slot).0)
-
-pub returns-in-Refused : goal.returns-in-Refused
-returns-in-Refused c =
-    let d = sym c.look_up.ensures ∙ ap lookup_told c.in-Refused.is in
-    rw (fetch-denied 512 c.args.image.now c.requires c.args.name.now c.args.k c.args.buf.now c.args.offset c.args.bytes.now _ d)
-    (refused-so _ _ _ _ _ _ refl _ refl (lookup-number 512 _ _ _ d))
-
-pub returns-in-InSlot : goal.returns-in-InSlot
-returns-in-InSlot c =
-    let slot : lookup 512 (view 512 c.args.image.now) c.args.name.now ≡ in_slot c.in-InSlot.s = sym c.look_up.ensures ∙ ap lookup_told c.in-InSlot.is in
-    rw (fetch-write 512 c.args.image.now c.requires c.args.name.now c.args.k c.args.buf.now c.args.offset c.args.bytes.now _ slot)
-    c.file_store.ensures
+pub returns : goal.returns
+returns c = rw (fetch-write 512 _ c.requires.passed _ c.args.k c.args.buf.now c.args.offset c.args.bytes.now _ (sym c.in_ok-s.ensures.told)) c.file_store.ensures

@@ -5,4 +5,4 @@ use Rattle.tfs_runs.proofs.run.run_of.Goals as goal
 
 pub returns : goal.returns
 unfolding at
-returns c = (rw c.requires.4, search rules, omega arith, omega arith, c.straight-len.ensures.2, c.number_at.ensures)
+returns c = (rw c.requires.3, search rules, omega arith, c.straight-len.ensures.2, c.number_at.ensures)

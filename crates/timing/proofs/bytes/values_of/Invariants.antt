@@ -1,12 +1,9 @@
 use mathlib.Core.Path.{◌≡◌}
-use Prim.Native.Nat.{◌+◌, ◌-◌, ◌*◌, ◌≤◌}
+use Prim.Native.Nat.{◌+◌, ◌*◌}
 use lib.ListN.{length, take}
 use Rattle.lists.specs.Lists.{table}
 use Rattle.timing_spec.specs.Timing.{pair_at}
 use Rattle.timing.proofs.bytes.values_of.Given as goal
 
 abbrev pub invariant-loop-i : goal.invariant-loop-i
-invariant-loop-i l = (l.i ≤ 28) × (length l.values ≡ 28) × (take l.i l.values ≡ table (λ j. pair_at l.bytes (8 + 2 * j)) 0 l.i)
-
-abbrev pub decreases-loop-i : goal.decreases-loop-i
-decreases-loop-i l = 28 - l.i
+invariant-loop-i l = (length l.values ≡ 28) × (take l.i l.values ≡ table (λ j. pair_at l.bytes (8 + 2 * j)) 0 l.i)

@@ -1,31 +1,35 @@
-use mathlib.Core.Path.{sym, ap, subst, ◌∙◌}
-use Prim.Native.Nat.{ℕ}
-use native.Mathlib.Omega.{arith}
+use mathlib.Core.Path.{◌≡◌, sym, ap, ◌∙◌}
 use lib.ListN.{take}
-use Rattle.tfs_spec.specs.Requests.{refused}
-use Rattle.tfs.specs.Told.{fault_answer, done_told, DoneFits}
-use Rattle.timing.specs.Told.{Seen}
-use Rattle.timing.specs.Rooms.{fault-number, room-absent, room-refused, room-stands}
+use Rattle.std.proofs.Common.{rules}
+use Rattle.std.proofs.lemmas.Result.{err_from_is_err_and}
+use Rattle.tfs_refusal.specs.Refusal.{rule, place}
+use Rattle.tfs_refusal.specs.declared.Refusal.TheVariants.{NoSuchName}
+use Rattle.timing.specs.declared.error.Error.TheVariants.{Refused}
+use Rattle.timing.specs.Told.{error_told}
+use Rattle.timing.specs.Rooms.{error-other, no-board-passed, no-board-fault, room-absent, room-refused, room-stands}
 use Rattle.timing.proofs.look.room_for.Goals as goal
 
--- absent
-pub returns-then-absent : goal.returns-then-absent
-returns-then-absent c =
-    let said = room-absent c.args.image.now (ap (λ (k : ℕ). refused k 0) (sym c.if-absent.true) ∙ ap done_told (sym c.in-Refused.is) ∙ c.look.ensures.0) in
-    (said.0, (λ e. omega arith), said.1)
+pub returns-in_err-check-clause-refused : goal.returns-in_err-check-clause-refused
+returns-in_err-check-clause-refused c =
+    let made = err_from_is_err_and c.from_residual.result c.from_residual.ensures.1 in
+    rw (made.1, made.2) (no-board-fault c.args.image.now (rule c.in_err-check.field-0.0) (place c.in_err-check.field-0.0) c.args.board c.in_err-check.ensures)
 
--- stands
-pub returns-in-Granted : goal.returns-in-Granted
-returns-in-Granted c =
-    let seen = subst (Seen c.args.image.now c.look.new.buf) c.in-Granted.is c.look.ensures.1 in
+pub returns-then-board-eq0-clause-refused : goal.returns-then-board-eq0-clause-refused
+returns-then-board-eq0-clause-refused c = rw c.if-board-eq0.true (no-board-passed c.args.image.now (sym c.in_ok-check.ensures))
+
+pub returns-in-Ok-clause-place : goal.returns-in-Ok-clause-place
+returns-in-Ok-clause-place c =
+    let seen = c.in-Ok.ensures.seen in
     let bytes = take 64 c.look.new.buf in
-    (seen.0, (λ e. omega arith), (bytes, seen.1, room-stands c.args.image.now bytes seen.0 (ap done_told (sym c.in-Granted.is) ∙ c.look.ensures.0) seen.1))
+    (seen.0, c.if-board-eq0.false, (bytes, seen.1, room-stands c.args.image.now bytes seen.0 c.in-Ok.ensures.answer seen.1))
 
-pub returns-else-absent : goal.returns-else-absent
-returns-else-absent c =
-    (room-refused c.args.image.now c.args.board (λ e. omega arith) (refused c.in-Refused.n 0) (ap done_told (sym c.in-Refused.is) ∙ c.look.ensures.0) c.if-absent.false, subst DoneFits c.in-Refused.is c.look.ensures.2)
+pub returns-then-absent-clause-place : goal.returns-then-absent-clause-place
+returns-then-absent-clause-place c =
+    let same : c.in-Err.error ≡ Refused NoSuchName = search rules in
+    let said = room-absent c.args.image.now (sym (ap error_told same) ∙ c.in-Err.ensures.answer) in
+    (said.0, c.if-board-eq0.false, said.1)
 
-pub returns-in-Inconsistent : goal.returns-in-Inconsistent
-returns-in-Inconsistent c =
-    let fits = subst DoneFits c.in-Inconsistent.is c.look.ensures.2 in
-    (room-refused c.args.image.now c.args.board (λ e. omega arith) (fault_answer c.in-Inconsistent.f) (ap done_told (sym c.in-Inconsistent.is) ∙ c.look.ensures.0) (λ e. omega (arith, e, fault-number c.in-Inconsistent.f fits)), fits)
+pub returns-else-absent-clause-refused : goal.returns-else-absent-clause-refused
+returns-else-absent-clause-refused c =
+    let other : c.in-Err.error ≡ Refused NoSuchName → ⊥ = search rules in
+    room-refused c.args.image.now c.args.board c.if-board-eq0.false (error_told c.in-Err.error) c.in-Err.ensures.answer (error-other c.in-Err.error other)

@@ -1,24 +1,24 @@
-use mathlib.Core.Path.{sym, ap, subst, ◌∙◌}
+use mathlib.Core.Path.{ap, subst, ◌∙◌}
 use mathlib.Core.List.{List}
 use Prim.Native.Nat.{ℕ}
 use lib.Dec.{T}
-use Rattle.tfs_spec.specs.Requests.{Answer, refused, granted, write}
-use Rattle.tfs.specs.Told.{fault_answer, answer_told, AnswerFits}
+use Rattle.std.proofs.lemmas.Result.{err_from_is_err_and}
+use Rattle.tfs_spec.specs.Requests.{Answer, granted, write}
 use Rattle.timing_spec.specs.Timing.{TIMING}
 use Rattle.timing.specs.Answers.{create-granted, create-put, create-refused, create-stays}
 use Rattle.timing.proofs.put.make.Goals as goal
 
-pub returns-in-Granted : goal.returns-in-Granted
-returns-in-Granted c =
-    let g = subst (λ (a : Answer). T (granted a)) (ap answer_told (sym c.in-Granted.is) ∙ c.create.ensures.0) tt in
-    (create-granted c.args.image.now g, c.put.ensures ∙ ap (λ (x : List ℕ). (write 512 x TIMING 0 c.args.bytes.now).image) c.create.ensures.1 ∙ create-put c.args.image.now c.args.bytes.now g, tt)
+pub returns-in_err-create-clause-answer : goal.returns-in_err-create-clause-answer
+returns-in_err-create-clause-answer c =
+    let made = err_from_is_err_and c.from_residual.result c.from_residual.ensures.1 in
+    rw (made.1, made.2) (create-refused c.args.image.now _ c.in_err-create.ensures.answer (λ t. t))
 
-pub returns-in-Refused : goal.returns-in-Refused
-returns-in-Refused c =
-    let said = ap answer_told (sym c.in-Refused.is) ∙ c.create.ensures.0 in
-    (create-refused c.args.image.now (refused c.in-Refused.n 0) said (λ t. t), c.create.ensures.1 ∙ create-stays c.args.image.now c.args.bytes.now (refused c.in-Refused.n 0) said (λ t. t), subst AnswerFits c.in-Refused.is c.create.ensures.2)
+pub returns-in_err-create-clause-image : goal.returns-in_err-create-clause-image
+returns-in_err-create-clause-image c = c.create.ensures.image ∙ create-stays c.args.image.now c.args.bytes.now _ c.in_err-create.ensures.answer (λ t. t)
 
-pub returns-in-Inconsistent : goal.returns-in-Inconsistent
-returns-in-Inconsistent c =
-    let said = ap answer_told (sym c.in-Inconsistent.is) ∙ c.create.ensures.0 in
-    (create-refused c.args.image.now (fault_answer c.in-Inconsistent.f) said (λ t. t), c.create.ensures.1 ∙ create-stays c.args.image.now c.args.bytes.now (fault_answer c.in-Inconsistent.f) said (λ t. t), subst AnswerFits c.in-Inconsistent.is c.create.ensures.2)
+pub returns-clause-answer : goal.returns-clause-answer
+returns-clause-answer c = create-granted c.args.image.now (subst (λ (a : Answer). T (granted a)) c.in_ok-create.ensures.answer tt)
+
+pub returns-clause-image : goal.returns-clause-image
+returns-clause-image c =
+    c.put.ensures ∙ ap (λ (x : List ℕ). (write 512 x TIMING 0 c.args.bytes.now).image) c.create.ensures.image ∙ create-put c.args.image.now c.args.bytes.now (subst (λ (a : Answer). T (granted a)) c.in_ok-create.ensures.answer tt)

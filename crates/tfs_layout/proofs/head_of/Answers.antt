@@ -1,6 +1,0 @@
-use Rattle.tfs_spec.specs.Layout.{view, view_n}
-use Rattle.tfs_layout.proofs.head_of.Goals as goal
-
-pub returns : goal.returns
-unfolding view view_n
-returns c = c.block_of.ensures
