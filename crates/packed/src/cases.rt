@@ -89,6 +89,7 @@ pub fn next<'a, R: Read>(
     buf: &'a mut [u8],
     image: &'a mut [u8],
 ) -> io::Result<Case<'a>>
+    ensures within { IfOk result (λ case. (length case.name.now ≤ length name.old) × (length case.buf.now ≤ length buf.old) × (length case.image.now ≤ length image.old)) }
     ensures lost { IfOk result (λ case. ReadsCase (R.remaining input.old) (R.remaining input.new) case.request case.number
         (length name.old) case.name.now (length buf.old) case.buf.now (length image.old) case.image.now) }
     ensures left { EndOf (R.remaining input.old) (R.remaining input.new) }

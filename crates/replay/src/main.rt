@@ -15,6 +15,7 @@ const ROOM: usize = 65537;
 
 // The whole of a file, if a buffer holds it.
 fn read_whole<'a, R: Read>(file: &mut R, buf: &'a mut [u8]) -> io::Result<Option<&'a mut [u8]>>
+    ensures within { IfOk result (λ whole. IfSome whole (λ part. length part.now ≤ length buf.old)) }
     ensures fits { IfOk result (λ whole. IfSome (R.remaining file.old) (λ all. IsSome whole ↔ (length all ≤ length buf.old))) }
     ensures bytes { IfOk result (λ whole. IfSome (R.remaining file.old) (λ all. IfSome whole (λ part. part.now ≡ all))) }
 {
@@ -28,7 +29,8 @@ fn read_whole<'a, R: Read>(file: &mut R, buf: &'a mut [u8]) -> io::Result<Option
 
 // The whole of an open file, if it can be read and a buffer holds it.
 fn read_open<'a, R: Read + Drop>(file: R, buf: &'a mut [u8]) -> Option<&'a mut [u8]>
-    ensures { IfSome (R.remaining file) (λ all. IfSome result (λ part. part.now ≡ all)) }
+    ensures within { IfSome result (λ part. length part.now ≤ length buf.old) }
+    ensures bytes { IfSome (R.remaining file) (λ all. IfSome result (λ part. part.now ≡ all)) }
 {
     let mut open = file;
     match read_whole(&mut open, buf) {
@@ -38,7 +40,9 @@ fn read_open<'a, R: Read + Drop>(file: R, buf: &'a mut [u8]) -> Option<&'a mut [
 }
 
 // The whole of the file that argument k names. A name is text, as std's paths are: one that is not UTF-8 names no file.
-fn read_file<'a, R: Env + Files>(rt: &R, k: usize, buf: &'a mut [u8]) -> Option<&'a mut [u8]> {
+fn read_file<'a, R: Env + Files>(rt: &R, k: usize, buf: &'a mut [u8]) -> Option<&'a mut [u8]>
+    ensures { IfSome result (λ part. length part.now ≤ length buf.old) }
+{
     let mut path = [0u8; 4096];
     let n = rt.arg(k, &mut path).ok()?;
     let name = str::from_utf8(&path[..n]).ok()?;
@@ -62,15 +66,16 @@ fn print_line(
         (Some(image), Some(trace)) => replay_line::line(image, true, trace, true),
         _ => replay_line::line(&mut [], false, &[], false),
     };
-    print!(rt; "{summary}")
+    rt.write_all(summary.text().as_str().as_bytes())
 }
 
 fn main(rt: HostRuntime) -> io::Result<()> {
+    // Before the return: behind it, the compiler would fill each twice.
+    let mut image = [0u8; ROOM];
+    let mut trace = [0u8; ROOM];
     if !has_arg(&rt, 2) || has_arg(&rt, 3) {
         return print_line(&rt, None, None);
     }
-    let mut image = [0u8; ROOM];
-    let mut trace = [0u8; ROOM];
     let image = read_file(&rt, 1, &mut image);
     let trace = read_file(&rt, 2, &mut trace);
     print_line(&rt, image, trace)

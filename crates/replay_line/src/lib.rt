@@ -1,11 +1,14 @@
 // The line that the replay program prints: decimal numbers with single spaces, and a newline.
 #![tactic(auto)]
 
+mod text; // text.rt: numbers as a line of text
+
 ghost use Rattle.std.specs.Prelude.{◌≡◌, Some};
 ghost use Rattle.tfs_spec.specs.Replays.{line_bytes, program_numbers};
 ghost use Rattle.replay_line.specs.File.{file_of, replayable, image_after};
 ghost use Rattle.replay_line.specs.Summary.{numbers};
 
+use crate::text::{Line, line_of_one, line_of_three, line_of_two};
 use std::fmt;
 use tfs::ReplayError;
 
@@ -20,23 +23,28 @@ pub enum Summary {
     Trouble,
 }
 
+impl Summary {
+    // The line of its numbers, whichever they are.
+    pub fn text(self) -> Line
+        ensures { result.bytes ≡ line_bytes (numbers self) }
+    {
+        match self {
+            Summary::Replayed(n) => line_of_two(0, n),
+            Summary::Stopped(error) => match error {
+                ReplayError::Malformed(k) => line_of_two(1, k),
+                ReplayError::Differs(k) => line_of_two(2, k),
+                ReplayError::Inconsistent(fault) => line_of_three(3, fault.rule(), fault.place()),
+            },
+            Summary::Trouble => line_of_one(4),
+        }
+    }
+}
+
 impl fmt::Display for Summary {
     ghost output = { λ summary. Some (line_bytes (numbers summary)) };
 
     fn fmt<W: fmt::Write>(&self, f: &mut fmt::Formatter<W>) -> fmt::Result {
-        match *self {
-            Summary::Replayed(n) => writeln!(f, "0 {n}"),
-            Summary::Stopped(error) => match error {
-                ReplayError::Malformed(k) => writeln!(f, "1 {k}"),
-                ReplayError::Differs(k) => writeln!(f, "2 {k}"),
-                ReplayError::Inconsistent(fault) => {
-                    let rule = fault.rule();
-                    let place = fault.place();
-                    writeln!(f, "3 {rule} {place}")
-                }
-            },
-            Summary::Trouble => writeln!(f, "4"),
-        }
+        f.write_str(self.text().as_str())
     }
 }
 

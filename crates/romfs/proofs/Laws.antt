@@ -13,13 +13,12 @@ use native.Mathlib.Decide.{ℕ_discrete}
 use mathlib.Core.Logic.{◌≢◌}
 use Rattle.lists.specs.Lists.{same_list, part, word}
 use Rattle.romfs_headers.specs.Known.{some_unless}
-use Rattle.romfs_spec.specs.Layout.{full_size, pad16, first_root, name_length, type_of_file, executable, next, info, size, name, content_at, after_name, has_data}
-use Rattle.romfs_spec.specs.Check.{accepted, broken, is_reached, check}
+use Rattle.romfs_spec.specs.Layout.{full_size, first_root, name_length, type_of_file, executable, next, info, size, name, content_at, after_name, has_data}
+use Rattle.romfs_spec.specs.Check.{accepted, is_reached, check}
 use Rattle.romfs_facts.specs.Tested.{Reached, root, along, inside, IsReached}
 use Rattle.romfs_spec.specs.Requests as rules
 use Rattle.romfs_spec.specs.Requests.{Answer, granted, refused, checked, first_of, match_from, match_in, is_directory, find_step, Entry, entry_at, entry_step, content_step, start_of}
-use Rattle.romfs_facts.specs.Walked.{volume-of, sound}
-use Rattle.romfs_facts.specs.Theorems.{check-parts}
+use Rattle.romfs_facts.specs.Walked.{sound}
 use Rattle.romfs_facts.specs.Find.{match-yes, match-end, match-next}
 use Rattle.romfs_facts.specs.Given.{content-in}
 use Rattle.romfs_links.specs.Known.{Walked}

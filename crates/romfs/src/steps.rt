@@ -1,6 +1,6 @@
 // What each request does on an image that the check accepts.
-ghost use Rattle.std.specs.Prelude.{◌≡◌, ◌==◌, ◌<◌, true, length, IfSome, IfErr};
-ghost use Rattle.romfs_spec.specs.Layout.{type_of_file, content_at};
+ghost use Rattle.std.specs.Prelude.{◌≡◌, ◌+◌, ◌==◌, ◌<◌, true, length, IfSome, IfErr};
+ghost use Rattle.romfs_spec.specs.Layout.{type_of_file, name_length, content_at};
 ghost use Rattle.romfs_spec.specs.Requests.{first_of, is_directory, match_from, find_step, entry_step, content_step, start_of};
 ghost use Rattle.romfs_facts.specs.Tested.{IsReached};
 ghost use Rattle.romfs_headers.specs.Known.{some_unless};
@@ -77,6 +77,13 @@ pub fn find_step(checked: Checked<'_>, dir: usize, name: &[u8]) -> Result<u32, R
 
 // ---- entry
 
+fn name_length_of(header: romfs_headers::Header<'_>) -> usize
+    ensures length { result ≡ name_length header.entry.image.bytes.now (header.entry.at + 16) }
+    ensures small { result < 4294967296 }
+{
+    header.named().name_length
+}
+
 #[tactic(auto, unfolding(romfs_spec::specs::Requests::entry_step, romfs_spec::specs::Requests::entry_at))]
 pub fn entry_step(checked: Checked<'_>, at: usize) -> Result<Header, Refusal>
     ensures answer { step_told entry_of result ≡ entry_step checked.entry.tree.image.bytes.now at }
@@ -87,14 +94,13 @@ pub fn entry_step(checked: Checked<'_>, at: usize) -> Result<Header, Refusal>
         return Err(Refusal::NoSuchHeader);
     }
     let header = tree.header(at);
-    let name_length = header.named().name_length;
     Ok(Header {
         file_type: header.file_type(),
         executable: header.is_executable(),
         info: header.info() as u32,
         size: header.size() as u32,
         next: header.next().unwrap_or(0) as u32,
-        name_length: name_length as u32,
+        name_length: name_length_of(header) as u32,
     })
 }
 

@@ -10,3 +10,4 @@ pub mod words; // words.rt: words and names
 pub use file_type::FileType;
 pub use header::{Header, List, Named};
 pub use image::Image;
+pub use words::{after_name, full_size, name_is, sum_words, word_at};

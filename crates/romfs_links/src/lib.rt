@@ -8,5 +8,5 @@ mod seek; // seek.rt: one header sought
 mod tour; // tour.rt: all headers visited
 mod tree; // tree.rt: an image that has passed rules 21 to 28
 
-pub use marks::Marks;
+pub use marks::{Marks, WINDOW};
 pub use tree::Tree;

@@ -3,6 +3,7 @@ ghost use Rattle.std.specs.Prelude.{◌≡◌, ◌==◌, true, false};
 ghost use Rattle.romfs_spec.specs.Layout.{type_of_file};
 ghost use Rattle.romfs_spec.specs.Check.{is_reached, bad_link};
 ghost use Rattle.romfs_facts.specs.Tested.{IsReached};
+ghost use Rattle.romfs_headers.specs.FileType.{type_number};
 ghost use Rattle.romfs_links.specs.Window.{Window};
 ghost use Rattle.romfs_links.specs.Tour.{links_on, State, Kept, Fine};
 
@@ -23,10 +24,10 @@ fn links_on(header: Header<'_>) -> bool
     }
 }
 
-fn is_hard_link(header: Header<'_>) -> bool
-    ensures { result ≡ (type_of_file header.entry.image.bytes.now header.entry.at == 0) }
+fn has_type(header: Header<'_>, kind: FileType) -> bool
+    ensures { result ≡ (type_of_file header.entry.image.bytes.now header.entry.at == type_number kind) }
 {
-    header.file_type() == FileType::HardLink
+    header.file_type().number() == kind.number()
 }
 
 impl<'a> Tree<'a> {
@@ -48,10 +49,10 @@ impl<'a> Tree<'a> {
         if !self.is_reached_in(to, marks) {
             return true;
         }
-        if !is_hard_link(header) {
+        if !has_type(header, FileType::HardLink) {
             return false;
         }
-        is_hard_link(self.header(to))
+        has_type(self.header(to), FileType::HardLink)
     }
 
     // Tests the link at a header if it leads into the window, and notes where it leads if that is behind it.

@@ -6,6 +6,15 @@ ghost use Rattle.tfs_inode.specs.Half.{half_at};
 use spans::words::be32;
 use tfs_layout::{BLOCK, LAST, block_of};
 
+// The number of the two bytes at index `at`, the first the more significant.
+#[tactic(auto, unfolding(crate::specs::Half::half_at))]
+pub fn half(ino: &[u8], at: usize) -> usize
+    requires { at + 2 ≤ length ino.now }
+    ensures { result ≡ half_at ino.now at }
+{
+    u16::from_be_bytes([ino[at], ino[at + 1]]) as usize
+}
+
 // An inode, on the bytes of its block.
 #[derive(Clone, Copy)]
 pub struct Inode<'a> {
@@ -42,12 +51,11 @@ impl<'a> Inode<'a> {
     }
 
     // The number of the two bytes at index `at`, the first the more significant.
-    #[tactic(auto, unfolding(crate::specs::Half::half_at))]
     pub fn half(self, at: usize) -> usize
         requires { at + 2 ≤ 512 }
         ensures { result ≡ half_at self.entry.bytes.now at }
     {
-        u16::from_be_bytes([self.bytes[at], self.bytes[at + 1]]) as usize
+        half(self.bytes, at)
     }
 
     // Block number k where it is below 4,096, from its low half.

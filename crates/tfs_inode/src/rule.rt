@@ -22,7 +22,8 @@ impl Inode<'_> {
         requires { (k < 127) × (3 ≤ n) × (n ≤ 4096) }
         ensures { result ≡ in_range n (inode_number self.entry.bytes.now k) }
     {
-        self.half(4 + 4 * k) == 0 && in_range(n, self.half(6 + 4 * k))
+        let clear = self.half(4 + 4 * k) == 0;
+        clear && in_range(n, self.half(6 + 4 * k))
     }
 
     // Whether a number after the `count` that the size asks for makes the inode wrong: one that is not 0.

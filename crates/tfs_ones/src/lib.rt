@@ -21,13 +21,14 @@ pub fn ones_below(map: &[u8], n: usize) -> usize
     ensures { (result ≡ ones_by_words map.now n) × (result ≡ ones_below map.now n) × (result ≤ n) }
 {
     let whole = n / 32;
-    let mut ones = 0;
+    // In 32 bits, of which four sums lie side by side in a register.
+    let mut ones: u32 = 0;
     for k in 0..whole {
-        ones += be32(map, 4 * k).count_ones() as usize;
+        ones += be32(map, 4 * k).count_ones();
     }
     let left = n % 32;
     if left == 0 {
-        return ones;
+        return ones as usize;
     }
-    ones + low_ones(be32(map, 4 * whole), left as u32) as usize
+    (ones + low_ones(be32(map, 4 * whole), left as u32)) as usize
 }

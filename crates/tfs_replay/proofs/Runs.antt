@@ -18,7 +18,7 @@ use Rattle.tfs_trace.specs.declared.Span.{Span}
 use Rattle.tfs_trace.specs.declared.Record.{Record}
 use Rattle.tfs_trace.specs.declared.Call.{Call}
 use Rattle.tfs_trace.specs.declared.Call.TheVariants.{Create, Remove, Read, Write, Free}
-use Rattle.tfs_replay.specs.Agree.{answer_agrees, read_agrees, wanted, Expects, expects, Stands, agrees_told, read_told}
+use Rattle.tfs_replay.specs.Agree.{answer_agrees, read_agrees, wanted, Expects, expects, Stands, settles, agrees_told, remove-agrees, read_told}
 
 module _ (img : List ℕ) (passed : check 512 img ≡ consistent) where
   -- ---- the check is passed, so that a request is its step
@@ -101,7 +101,7 @@ module _ (img t : List ℕ) (item : Record) (passed : check 512 img ≡ consiste
     ran_remove n e name told image =
         ran (remove_step 512 img nm) b new
         (rw (e, ← name) (run-remove img passed nm))
-        (said ∙ agrees_told t a (remove_step 512 img nm) item.expected (may (Remove n) e) told)
+        (said ∙ remove-agrees t a (remove_step 512 img nm) item.expected (may (Remove n) e) (settles a (remove_step 512 img nm).answer told))
         image
 
     pub ran_write : (n s : Span) (o : ℕ) (bs : List ℕ) → item.call ≡ Write n o s → nm ≡ span_of t n → bs ≡ span_of t s → Stands a (write_step 512 img nm o bs).answer → new ≡ (write_step 512 img nm o bs).image → Ran img t item b new

@@ -12,6 +12,7 @@ pub fn answer_agrees(answer: Result<u32, Refusal>, expected: Expected) -> bool
     match (answer, expected) {
         (Ok(_), Expected::Nothing) => true,
         (Ok(x), Expected::Amount(n)) => x == n,
+        (Ok(_), Expected::Refusal(n)) => 0 == n,
         (Err(refusal), Expected::Refusal(n)) => refusal.number() == n,
         _ => false,
     }
@@ -23,6 +24,7 @@ pub fn read_agrees(same: Result<bool, Refusal>, expected: Expected) -> bool
 {
     match (same, expected) {
         (Ok(same), Expected::Bytes(_)) => same,
+        (Ok(_), Expected::Refusal(n)) => 0 == n,
         (Err(refused), Expected::Refusal(n)) => refused.number() == n,
         _ => false,
     }

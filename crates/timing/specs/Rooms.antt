@@ -33,15 +33,19 @@ fault-low (twice b o q h e f g) = omega arith
 fault-low (unmarked b h f g) = omega arith
 fault-low (stray b h f g) = omega arith
 
+-- and so are those that the code tells
+pub fault-number : (f : Fault) → rule f ≤ 7
+fault-number ImageTooShort = omega arith
+fault-number BadMagic = omega arith
+fault-number BadLabel = omega arith
+fault-number (BadSlot s) = omega arith
+fault-number (BadInode s) = omega arith
+fault-number (BlockTwice b) = omega arith
+fault-number (MapWrong b) = omega arith
+
 -- the refusal of a name that no file has is the only one of its number
 rule-other : (f : Fault) → rule f ≢ 13
-rule-other ImageTooShort e = omega (arith, e)
-rule-other BadMagic e = omega (arith, e)
-rule-other BadLabel e = omega (arith, e)
-rule-other (BadSlot s) e = omega (arith, e)
-rule-other (BadInode s) e = omega (arith, e)
-rule-other (BlockTwice b) e = omega (arith, e)
-rule-other (MapWrong b) e = omega (arith, e)
+rule-other f e = omega (arith, e, fault-number f)
 
 refusal-other : (r : Refusal) → r ≢ NoSuchName → number r ≢ 13
 refusal-other NameNotAllowed other e = omega (arith, e)

@@ -18,7 +18,9 @@ pub enum Place {
     Absent,
 }
 
-// Reads the file into the buffer, which then begins with its bytes, if it stands with its size: 13, 35.
+// Reads the file into the buffer, which then begins with its bytes, if it stands with its size: 13, 35. Inlined: its error, handed on through memory,
+// would make a refused boot take a fifth more.
+#[inline(always)]
 pub fn look(image: &[u8], buf: &mut [u8; MORE]) -> Result<(), Error>
     ensures answer { answer_told (λ _. done) result ≡ open_answer 512 image.now }
     ensures seen { IfOk result (λ _. Seen image.now buf.new) }
@@ -36,7 +38,8 @@ pub fn room_for(image: &[u8], board: u32) -> Result<Place, Error>
     ensures place { IfOk result (Goes image.now board) }
     ensures refused { RefusedBy (store_answer 512 image.now board) result }
 {
-    if board == 0 {
+    let none = board == 0;
+    if none {
         tfs::check(image)?;
         return Err(Error::NoBoard);
     }

@@ -67,6 +67,19 @@ fn of_answer(answer: Result<u32, Error>) -> TimingResult
     }
 }
 
+// A refused boot. Not inlined: beside a granted one, whose values lie in registers, each of its zeros would be made in one too.
+#[inline(never)]
+#[tactic(auto, unfolding(crate::specs::Result::result_of))]
+fn refused_boot(refusal: u32, place: u32) -> TimingBooted
+    ensures { result ≡ booted_of (rules.not_booted refusal place) }
+{
+    TimingBooted {
+        refusal,
+        place,
+        values: [0; VALUES],
+    }
+}
+
 #[tactic(auto, unfolding(crate::specs::Result::result_of))]
 fn of_boot(answer: Result<[u16; VALUES], Error>) -> TimingBooted
     ensures { result ≡ booted_of (booted_told answer) }
@@ -77,14 +90,7 @@ fn of_boot(answer: Result<[u16; VALUES], Error>) -> TimingBooted
             place: 0,
             values,
         },
-        Err(error) => {
-            let told = refused(error);
-            TimingBooted {
-                refusal: told.refusal,
-                place: told.place,
-                values: [0; VALUES],
-            }
-        }
+        Err(error) => refused_boot(error.number(), error.place()),
     }
 }
 

@@ -19,4 +19,4 @@ returns-clause-answer c =
     (rw (h.image, h.at) at c.info.ensures.info)
     (rw (h.image, h.at) at c.size.ensures.size)
     (c.unwrap_or.ensures ∙ ap (λ (o : Option ℕ). unwrap_or o 0) next ∙ laws.or-none _)
-    (rw (c.named-name_length.ensures, h.image, h.at) at c.named-name_length.result.long))
+    (rw (h.image, h.at) at c.name_length_of.ensures.length))
